@@ -1,0 +1,134 @@
+-- Laws of the southern boundaries. From formula 1 and Table 1: the two agree at every entry, the boundaries rise, each file is 28 or 29 rows high
+-- and the last ends at 18,662; from these, which base a northing has. Assumes nothing.
+use mathlib.Core.Path.{_≡_, refl}
+use mathlib.Core.Logic.{_↔_}
+use mathlib.Core.Bool.{true, false, and-false, and-eq-true-iff}
+use Prim.Native.Nat.{ℕ, zero, suc, _+_, _-_, _*_, _/_, _%_, _≤_, _<_}
+use native.Mathlib.Nat.{mul-le-mul, le-of-suc-le-suc, not-suc-le-zero, lt-of-not-le, le-of-lt}
+use native.Mathlib.Decide.{decLe}
+use native.Mathlib.Omega.{arith}
+use lib.Dec.{leb, eqb}
+use lib.ListN.{getD}
+use borrow.Author.Tests.{leb-true, eqb-true, le-ltb, le-leb, lt-ltb}
+use Rattle.ground.specs.Outcome.{given, refused}
+use Rattle.ground.specs.Measure.{units}
+use Rattle.ground.specs.Boundary.{yB, table1, span, rows, isBase, spans, firstSpanning, baseAt}
+use Rattle.ground.specs.declared.measure.Units.{Units}
+use Rattle.ground.proofs.Laws.Every.{every-le, every-eq}
+
+-- Table 1 and formula 1 agree at all 22 entries
+pub table-entry : (k : ℕ) → k < 22 → getD table1 k 0 ≡ yB (4 * k) .0
+unfolding table1 yB
+table-entry = every-eq (λ k. getD table1 k 0) (λ k. yB (4 * k) .0) 22 tt
+
+-- so a file's two entries are its boundaries
+pub table-span : (k : ℕ) → k < 21 → record { south = units (getD table1 k 0); north = units (getD table1 (k + 1) 0) } ≡ span (4 * k)
+table-span k h =
+    let next : 4 * (k + 1) ≡ 4 * k + 4 = omega arith in
+    simp (table-entry k (omega arith), table-entry (k + 1) (omega arith), next)
+
+pub last : yB 84 .0 ≡ 18662
+unfolding yB
+last = refl
+
+-- the boundaries rise, by at least 217 units a degree
+steep : {a b : ℕ} → a ≤ b → yB a .0 + 217 * (b - a) ≤ yB b .0
+unfolding yB
+steep {a} {b} h = omega (arith, mul-le-mul {n₁ = 246 + a} {m₁ = a} {n₂ = 246 + b} {m₂ = b} (omega arith) h)
+
+pub rising : {a b : ℕ} → a < b → yB a .0 < yB b .0
+rising h = omega (arith, steep (le-of-lt h))
+
+-- the northern boundary is as many rows of 31 units up
+pub rows-high : (b : ℕ) → yB (b + 4) .0 ≡ yB b .0 + 31 * rows b
+unfolding yB rows
+rows-high b = omega (arith, steep {a = b} {b = b + 4} (omega arith))
+
+-- a base is four times a number below 21
+pub base-at : (b : ℕ) → isBase b ≡ true → (b / 4 < 21) × (4 * (b / 4) ≡ b)
+base-at b h =
+    let t = and-eq-true-iff (leb b 80) (eqb (b % 4) 0) .0 h in
+    let most = leb-true b 80 (t .0) in
+    let even = eqb-true (b % 4) 0 (t .1) in
+    omega arith
+
+-- at each base: 28 rows at least, and 29 at most
+few : (k : ℕ) → k < 21 → 28 ≤ rows (4 * k)
+unfolding yB rows
+few = every-le (λ _. 28) (λ k. rows (4 * k)) 21 tt
+
+many : (k : ℕ) → k < 21 → rows (4 * k) ≤ 29
+unfolding yB rows
+many = every-le (λ k. rows (4 * k)) (λ _. 29) 21 tt
+
+pub rows-28-29 : (b : ℕ) → isBase b ≡ true → (28 ≤ rows b) × (rows b ≤ 29)
+rows-28-29 b h =
+    let t = base-at b h in
+    (rw (t .1) at (few (b / 4) (t .0)), rw (t .1) at (many (b / 4) (t .0)))
+
+-- 899 k lies between the southern and the northern boundary of base 4k
+pub above : (k : ℕ) → k < 21 → yB (4 * k) .0 ≤ 899 * k
+unfolding yB
+above = every-le (λ k. yB (4 * k) .0) (λ k. 899 * k) 21 tt
+
+pub below : (k : ℕ) → k < 21 → 899 * k ≤ yB (4 * k + 4) .0
+unfolding yB
+below = every-le (λ k. 899 * k) (λ k. yB (4 * k + 4) .0) 21 tt
+
+-- The base of y is the only base that spans it: every base before it ends at or below y.
+
+passed : (b : ℕ) (y : Units) → yB (b + 4) .0 ≤ y .0 → spans b y ≡ false
+unfolding spans
+passed b y h = simp (le-ltb _ _ h, and-false)
+
+pub found : (k b j a : ℕ) (y : Units) → j < k → a ≡ b + 4 * j → yB a .0 ≤ y .0 → y .0 < yB (a + 4) .0 → firstSpanning k b y ≡ given a
+unfolding firstSpanning spans
+found zero b j a y lt e l h = absurd (not-suc-le-zero lt)
+found (suc k) b zero a y lt e l h =
+    let q : a ≡ b = omega arith in
+    simp (← q, le-leb _ _ l, lt-ltb _ _ h)
+found (suc k) b (suc j) a y lt e l h =
+    simp (
+      passed b y (omega (arith, steep {a = b + 4} {b = a} (omega arith))),
+      found k (b + 4) j a y (le-of-suc-le-suc lt) (omega arith) l h,
+    )
+
+pub none : (k b : ℕ) (y : Units) → yB (b + 4 * k) .0 ≤ y .0 → firstSpanning k b y ≡ refused 4 0
+unfolding firstSpanning
+none zero b y h = refl
+none (suc k) b y h =
+    let e : b + 4 * suc k ≡ b + 4 + 4 * k = omega arith in
+    let h′ = rw e at h in
+    simp (passed b y (omega (arith, h′, steep {a = b + 4} {b = b + 4 + 4 * k} (omega arith))), none k (b + 4) y h′)
+
+-- The base of y: none from 18,662 on, and else that of file y / 899 or of the next one, by the side of their boundary that y is on.
+pub base-none : (y : Units) → 18662 ≤ y .0 → baseAt y ≡ refused 4 0
+unfolding baseAt
+base-none y h = none 21 0 y (omega (arith, last))
+
+pub base-next : (y : Units) → y .0 < 18662 → yB (4 * (y .0 / 899) + 4) .0 ≤ y .0 → baseAt y ≡ given (4 * (y .0 / 899) + 4)
+unfolding baseAt
+base-next y h l =
+    let k = y .0 / 899 in
+    let e : 4 * (k + 1) ≡ 4 * k + 4 = omega arith in
+    let lt : k + 1 < 21 = lt-of-not-le λ ge. omega (arith, last, steep {a = 84} {b = 4 * k + 4} (omega arith)) in
+    found 21 0 (k + 1) (4 * k + 4) y lt (omega arith) l (omega (arith, rw e at (below (k + 1) lt)))
+
+pub base-own : (y : Units) → y .0 < 18662 → y .0 < yB (4 * (y .0 / 899) + 4) .0 → baseAt y ≡ given (4 * (y .0 / 899))
+unfolding baseAt
+base-own y h l =
+    let k = y .0 / 899 in
+    found 21 0 k (4 * k) y (omega arith) (omega arith) (omega (arith, above k (omega arith))) l
+
+-- Document 01's own words: the base of y is the b with yB(b) <= y < yB(b+4), and only from 18,662 on is there none.
+pub base-is : (b : ℕ) (y : Units) → isBase b ≡ true → yB b .0 ≤ y .0 → y .0 < yB (b + 4) .0 → baseAt y ≡ given b
+unfolding baseAt
+base-is b y h l u = found 21 0 (b / 4) b y (base-at b h .0) (omega (arith, base-at b h)) l u
+
+pub base-refused : (y : Units) → (baseAt y ≡ refused 4 0) ↔ (18662 ≤ y .0)
+base-refused y = (λ e. go e (decLe 18662 (y .0)) (decLe (yB (4 * (y .0 / 899) + 4) .0) (y .0)), base-none y)
+  where
+    go : baseAt y ≡ refused 4 0 → Dec (18662 ≤ y .0) → Dec (yB (4 * (y .0 / 899) + 4) .0 ≤ y .0) → 18662 ≤ y .0
+    go e (yes h) d = h
+    go e (no h) (yes l) = let z : _≡_ {A = ℕ} 0 1 = cc (base-next y (lt-of-not-le h) l) in omega arith
+    go e (no h) (no l) = let z : _≡_ {A = ℕ} 0 1 = cc (base-own y (lt-of-not-le h) (lt-of-not-le l)) in omega arith

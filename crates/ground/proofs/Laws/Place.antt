@@ -1,0 +1,72 @@
+-- What is so of the place of a point that its ground holds: it gives the point back, its rectangle is one of the file's, and the words of
+-- its corners are words of a record; and the weights add up to 250,000. From the laws of an axis of the grid. Assumes nothing.
+use mathlib.Core.Path.{_≡_, refl}
+use mathlib.Core.Bool.{true}
+use Prim.Native.Nat.{ℕ, _+_, _-_, _*_, _/_, _≤_, _<_}
+use native.Mathlib.Nat.{le-of-suc-le-suc, mul-le-mul, lt-of-le-of-lt, div-lt-iff-lt-mul}
+use native.Mathlib.Omega.{arith}
+use lib.Dec.{lit<}
+use mir.Syntax.{w32}
+use mir.Val.{Fits}
+use Rattle.ground.specs.Measure.{inUnits}
+use Rattle.ground.specs.Boundary.{yB, rows}
+use Rattle.ground.specs.Ground.{groundOf, holds}
+use Rattle.ground.specs.Place.{number, weightsOf, placeAt, placeOf, word}
+use Rattle.ground.specs.declared.measure.Metres.{Metres}
+use Rattle.ground.specs.declared.point.Point.{Point}
+use Rattle.ground.specs.declared.Ground.{Ground}
+use Rattle.ground.specs.declared.place.Place.{Place}
+use Rattle.ground.proofs.Laws.Size.{axis, weights-add-up}
+use Rattle.ground.proofs.Laws.Boundary.{rows-high}
+use Rattle.ground.proofs.Laws.Ground.{held}
+
+-- the place s of the point p on the ground g: what gives its easting and northing back, and within which bounds
+pub record Lies (g : Ground) (p : Point) (s : Place) : Type 0 where
+  pub easting : 125000 + 500 * (15 * s .rectangle .ix + s .wx .0) + s .fx .0 ≡ p .easting .0
+  pub northing : 500 * (g .south .0 + 31 * s .rectangle .iy + s .wy .0) + s .fy .0 ≡ p .northing .0
+  pub ix : s .rectangle .ix ≤ 99
+  pub wx : s .wx .0 ≤ 14
+  pub wy : s .wy .0 ≤ 30
+  pub fx : s .fx .0 ≤ 499
+  pub fy : s .fy .0 ≤ 499
+  pub weights : s .weights ≡ weightsOf (s .fx) (s .fy)
+
+pub lies : (g : Ground) (p : Point) → holds g p ≡ true → Lies g p (placeOf g p)
+unfolding placeOf placeAt
+lies g p h =
+    let t = held g p h in
+    let x = axis 500 15 250 (p .easting .0) (lit< tt) (lit< tt) (omega arith) in
+    let y = axis 500 31 (g .south .0) (p .northing .0) (lit< tt) (lit< tt) (t .south) in
+    record {
+      easting = omega arith;
+      northing = y .back;
+      ix = omega arith;
+      wx = le-of-suc-le-suc (x .units);
+      wy = le-of-suc-le-suc (y .units);
+      fx = le-of-suc-le-suc (x .metres);
+      fy = le-of-suc-le-suc (y .metres);
+      weights = refl;
+    }
+
+-- all four corners are among the 512 words of a record
+pub word-within : (g : Ground) (p : Point) → holds g p ≡ true → word (placeOf g p) + 17 ≤ 512
+word-within g p h = omega (arith, lies g p h)
+
+-- the rectangle is one of the file's
+pub number-within : (b z : ℕ) (p : Point) → holds (groundOf b z) p ≡ true → number (placeOf (groundOf b z) p .rectangle) < 100 * rows b
+unfolding placeOf placeAt
+number-within b z p h =
+    let t = held (groundOf b z) p h in
+    let l = lies (groundOf b z) p h in
+    let y = inUnits (p .northing) .0 - yB b .0 in
+    let iy : y / 31 < rows b = div-lt-iff-lt-mul (lit< tt) .1 (omega (arith, rows-high b)) in
+    omega arith
+
+-- the weights add up to 250,000
+pub weights-250000 : (fx fy : Metres) → fx .0 ≤ 500 → fy .0 ≤ 500 → weightsOf fx fy .sw + weightsOf fx fy .se + (weightsOf fx fy .nw + weightsOf fx fy .ne) ≡ 250000
+unfolding weightsOf
+weights-250000 fx fy hx hy = weights-add-up 500 (fx .0) (fy .0) hx hy
+
+-- a weight fits a u32
+pub weight-fits : (a b : ℕ) → a ≤ 500 → b ≤ 500 → Fits w32 (a * b)
+weight-fits a b ha hb = record { fits = lt-of-le-of-lt (mul-le-mul ha hb) (lit< tt) }

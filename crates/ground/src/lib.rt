@@ -1,0 +1,94 @@
+// The ground of a terrain file: its boundaries, its name, and where a point lies on it.
+ghost use mathlib.Core.Path.{_≡_};
+ghost use Rattle.ground.specs.Ground.{opened, openedAnswer, holds};
+ghost use Rattle.ground.specs.Place.{located, locatedAnswer};
+use measure::Units;
+use place::Place;
+use point::Point;
+use rectangle::Rectangle;
+
+pub mod measure;
+pub mod name;
+pub mod place;
+pub mod point;
+pub mod rectangle;
+pub mod table;
+
+// The ground of a file that is opened: its zone, its boundaries, and its rows of rectangles.
+pub struct Ground {
+    pub zone: u32,
+    pub south: Units,
+    pub north: Units,
+    pub rows: u32,
+}
+
+// What opening a file comes to: its ground, or the number of the refusal.
+pub enum Opened {
+    On(Ground),
+    Refused(u32),
+}
+
+// What locating a point comes to: its place, or the number of the refusal.
+pub enum Located {
+    At(Place),
+    Refused(u32),
+}
+
+impl Ground {
+    // The first and the last easting of the ground, in metres.
+    pub const FIRST_EASTING: u32 = 125000;
+
+    pub const LAST_EASTING: u32 = 874999;
+
+    // The x of its western edge, in units.
+    pub const WEST: u32 = 250;
+
+    // The ground of the file of a base and a zone, or refusal 2.
+    pub fn open(base: u32, zone: u32) -> Opened
+        ensures { λ r. ⌜ r ≡ openedAnswer (opened base zone) ⌝ }
+    {
+        if !table::are_named(base, zone) {
+            return Opened::Refused(2);
+        }
+        let file = table::boundaries((base / 4) as usize);
+        let south = file.south;
+        let north = file.north;
+        Opened::On(Ground {
+            zone,
+            south,
+            north,
+            rows: (north.0 - south.0) / Rectangle::NORTH,
+        })
+    }
+
+    // Whether the point is of the zone and on the ground.
+    pub fn holds(self, point: Point) -> bool
+        ensures { λ r. ⌜ r ≡ holds self point ⌝ }
+    {
+        let easting = point.easting.0;
+        let y = point.northing.in_units().0;
+        (point.zone == self.zone)
+            & ((Ground::FIRST_EASTING <= easting)
+                & (easting <= Ground::LAST_EASTING)
+                & ((self.south.0 <= y) & (y < self.north.0)))
+    }
+
+    // Where the point lies, or refusal 4 where it is of another zone or not on the ground.
+    pub fn locate(self, point: Point) -> Located
+        ensures { λ r. ⌜ r ≡ locatedAnswer (located self point) ⌝ }
+    {
+        if !self.holds(point) {
+            return Located::Refused(4);
+        }
+        let x = point.easting.in_units();
+        let y = point.northing.in_units();
+        let east = Units(x.0 - Ground::WEST);
+        let north = Units(y.0 - self.south.0);
+        Located::At(Place::at(
+            east,
+            north,
+            point.easting.past_unit(),
+            point.northing.past_unit(),
+        ))
+    }
+}

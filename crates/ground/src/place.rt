@@ -1,0 +1,88 @@
+// Where a point lies in its file, and what the corners around it weigh.
+ghost use Prim.Native.Nat.{_<_};
+ghost use mathlib.Core.Path.{_≡_};
+ghost use Rattle.ground.specs.Place.{weightsOf, placeAt, word, wordsOf};
+use crate::measure::Metres;
+use crate::measure::Units;
+use crate::rectangle::Rectangle;
+
+// What each of the four corners weighs; together 250,000.
+pub struct Weights {
+    pub sw: u32,
+    pub se: u32,
+    pub nw: u32,
+    pub ne: u32,
+}
+
+// The words at the four corners, counted from 1.
+pub struct Words {
+    pub sw: usize,
+    pub se: usize,
+    pub nw: usize,
+    pub ne: usize,
+}
+
+// The rectangle, the column wx and row wy of the south-west corner in it, the metres fx and fy past
+// that corner, and the weights.
+pub struct Place {
+    pub rectangle: Rectangle,
+    pub wx: Units,
+    pub wy: Units,
+    pub fx: Metres,
+    pub fy: Metres,
+    pub weights: Weights,
+}
+
+impl Weights {
+    // The weights fx metres east and fy metres north of the south-west corner.
+    pub(crate) fn at(fx: Metres, fy: Metres) -> Weights
+        requires { ⌜ (fx .0 < 500) × (fy .0 < 500) ⌝ }
+        ensures { λ r. ⌜ r ≡ weightsOf fx fy ⌝ }
+    {
+        let gx = Metres::IN_A_UNIT - fx.0;
+        let gy = Metres::IN_A_UNIT - fy.0;
+        Weights {
+            sw: gx * gy,
+            se: fx.0 * gy,
+            nw: gx * fy.0,
+            ne: fx.0 * fy.0,
+        }
+    }
+}
+
+impl Place {
+    // The place so many units east and north of the ground's corner, and fx and fy metres past that.
+    pub(crate) fn at(east: Units, north: Units, fx: Metres, fy: Metres) -> Place
+        requires { ⌜ (fx .0 < 500) × (fy .0 < 500) ⌝ }
+        ensures { λ r. ⌜ r ≡ placeAt east north fx fy ⌝ }
+    {
+        Place {
+            rectangle: Rectangle::at(east, north),
+            wx: Units(east.0 % Rectangle::EAST),
+            wy: Units(north.0 % Rectangle::NORTH),
+            fx,
+            fy,
+            weights: Weights::at(fx, fy),
+        }
+    }
+
+    // The word of the south-west corner, w = 16 wy + wx + 1.
+    pub fn word(self) -> usize
+        ensures { λ r. ⌜ r ≡ word self ⌝ }
+    {
+        Rectangle::WIDE * self.wy.0 as usize + self.wx.0 as usize + 1
+    }
+
+    // The words of the corners: w, w + 1, w + 16, w + 17.
+    pub fn words(self) -> Words
+        ensures { λ r. ⌜ r ≡ wordsOf self ⌝ }
+    {
+        let w = self.word();
+        Words {
+            sw: w,
+            se: w + 1,
+            nw: w + Rectangle::WIDE,
+            ne: w + Rectangle::WIDE + 1,
+        }
+    }
+}

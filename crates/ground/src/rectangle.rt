@@ -1,0 +1,52 @@
+// A grid rectangle of a file, by its row Iy and its column Ix.
+ghost use mathlib.Core.Path.{_≡_};
+ghost use Rattle.ground.specs.Place.{rectangle, rectangleAt, rectangleWords, number};
+use crate::measure::Units;
+
+pub struct Rectangle {
+    pub iy: u32,
+    pub ix: u32,
+}
+
+impl Rectangle {
+    // Its size in units, east and north.
+    pub const EAST: u32 = 15;
+
+    pub const NORTH: u32 = 31;
+
+    // Its size in words: the words of a row, and the rows.
+    pub const WIDE: usize = 16;
+
+    pub const HIGH: usize = 32;
+
+    // Rectangles in a row of a file.
+    pub const IN_A_ROW: usize = 100;
+
+    // The rectangle in row Iy and column Ix.
+    pub fn new(iy: u32, ix: u32) -> Rectangle
+        ensures { λ r. ⌜ r ≡ rectangle iy ix ⌝ }
+    {
+        Rectangle { iy, ix }
+    }
+
+    // The rectangle that lies so many units east and north of the ground's corner.
+    pub fn at(east: Units, north: Units) -> Rectangle
+        ensures { λ r. ⌜ r ≡ rectangleAt east north ⌝ }
+    {
+        Rectangle::new(north.0 / Rectangle::NORTH, east.0 / Rectangle::EAST)
+    }
+
+    // How many words a rectangle has: 16 by 32.
+    pub fn words() -> usize
+        ensures { λ r. ⌜ r ≡ rectangleWords ⌝ }
+    {
+        Rectangle::WIDE * Rectangle::HIGH
+    }
+
+    // Its number, n = 100 Iy + Ix.
+    pub fn number(self) -> usize
+        ensures { λ r. ⌜ r ≡ number self ⌝ }
+    {
+        Rectangle::IN_A_ROW * self.iy as usize + self.ix as usize
+    }
+}
