@@ -35,9 +35,10 @@ pub enum Located {
 }
 
 impl Ground {
-    // The first and the last easting of the ground, in metres.
+    // The first easting of the ground, in metres.
     pub const FIRST_EASTING: u32 = 125000;
 
+    // The last easting of the ground, in metres.
     pub const LAST_EASTING: u32 = 874999;
 
     // The x of its western edge, in units.

@@ -9,14 +9,16 @@ pub struct Rectangle {
 }
 
 impl Rectangle {
-    // Its size in units, east and north.
+    // Units from its western edge to its eastern one.
     pub const EAST: u32 = 15;
 
+    // Units from its southern edge to its northern one.
     pub const NORTH: u32 = 31;
 
-    // Its size in words: the words of a row, and the rows.
+    // Words in a row of it.
     pub const WIDE: usize = 16;
 
+    // Rows of words in it.
     pub const HIGH: usize = 32;
 
     // Rectangles in a row of a file.
