@@ -67,11 +67,11 @@ rows-28-29 b h =
     (rw (t .1) at (few (b / 4) (t .0)), rw (t .1) at (many (b / 4) (t .0)))
 
 -- 899 k lies between the southern and the northern boundary of base 4k
-pub above : (k : ℕ) → k < 21 → yB (4 * k) .0 ≤ 899 * k
+above : (k : ℕ) → k < 21 → yB (4 * k) .0 ≤ 899 * k
 unfolding yB
 above = every-le (λ k. yB (4 * k) .0) (λ k. 899 * k) 21 tt
 
-pub below : (k : ℕ) → k < 21 → 899 * k ≤ yB (4 * k + 4) .0
+below : (k : ℕ) → k < 21 → 899 * k ≤ yB (4 * k + 4) .0
 unfolding yB
 below = every-le (λ k. 899 * k) (λ k. yB (4 * k + 4) .0) 21 tt
 
@@ -81,7 +81,7 @@ passed : (b : ℕ) (y : Units) → yB (b + 4) .0 ≤ y .0 → spans b y ≡ fals
 unfolding spans
 passed b y h = simp (le-ltb _ _ h, and-false)
 
-pub found : (k b j a : ℕ) (y : Units) → j < k → a ≡ b + 4 * j → yB a .0 ≤ y .0 → y .0 < yB (a + 4) .0 → firstSpanning k b y ≡ given a
+found : (k b j a : ℕ) (y : Units) → j < k → a ≡ b + 4 * j → yB a .0 ≤ y .0 → y .0 < yB (a + 4) .0 → firstSpanning k b y ≡ given a
 unfolding firstSpanning spans
 found zero b j a y lt e l h = absurd (not-suc-le-zero lt)
 found (suc k) b zero a y lt e l h =
@@ -93,7 +93,7 @@ found (suc k) b (suc j) a y lt e l h =
       found k (b + 4) j a y (le-of-suc-le-suc lt) (omega arith) l h,
     )
 
-pub none : (k b : ℕ) (y : Units) → yB (b + 4 * k) .0 ≤ y .0 → firstSpanning k b y ≡ refused 4 0
+none : (k b : ℕ) (y : Units) → yB (b + 4 * k) .0 ≤ y .0 → firstSpanning k b y ≡ refused 4 0
 unfolding firstSpanning
 none zero b y h = refl
 none (suc k) b y h =

@@ -1,5 +1,5 @@
 -- What is so of the place of a point that its ground holds: it gives the point back, its rectangle is one of the file's, and the words of
--- its corners are words of a record; and the weights add up to 250,000. From the laws of an axis of the grid. Assumes nothing.
+-- its corners are words of a record; and the weights balance at the point and add up to 250,000. From the laws over the sizes. Assumes nothing.
 use mathlib.Core.Path.{_≡_, refl}
 use mathlib.Core.Bool.{true}
 use Prim.Native.Nat.{ℕ, _+_, _-_, _*_, _/_, _≤_, _<_}
@@ -16,7 +16,8 @@ use Rattle.ground.specs.declared.measure.Metres.{Metres}
 use Rattle.ground.specs.declared.point.Point.{Point}
 use Rattle.ground.specs.declared.Ground.{Ground}
 use Rattle.ground.specs.declared.place.Place.{Place}
-use Rattle.ground.proofs.Laws.Size.{axis, weights-add-up}
+use Rattle.ground.specs.declared.place.Weights.{Weights}
+use Rattle.ground.proofs.Laws.Size.{axis, square}
 use Rattle.ground.proofs.Laws.Boundary.{rows-high}
 use Rattle.ground.proofs.Laws.Ground.{held}
 
@@ -62,10 +63,17 @@ number-within b z p h =
     let iy : y / 31 < rows b = div-lt-iff-lt-mul (lit< tt) .1 (omega (arith, rows-high b)) in
     omega arith
 
--- the weights add up to 250,000
-pub weights-250000 : (fx fy : Metres) → fx .0 ≤ 500 → fy .0 ≤ 500 → weightsOf fx fy .sw + weightsOf fx fy .se + (weightsOf fx fy .nw + weightsOf fx fy .ne) ≡ 250000
+-- the weights balance at the point, fx metres east and fy metres north of the south-west corner, and add up to 250,000
+pub record Weighs (fx fy : Metres) (w : Weights) : Type 0 where
+  pub east : w .se + w .ne ≡ 500 * fx .0
+  pub north : w .nw + w .ne ≡ 500 * fy .0
+  pub all : w .sw + w .se + (w .nw + w .ne) ≡ 250000
+
+pub weighs : (fx fy : Metres) → fx .0 ≤ 500 → fy .0 ≤ 500 → Weighs fx fy (weightsOf fx fy)
 unfolding weightsOf
-weights-250000 fx fy hx hy = weights-add-up 500 (fx .0) (fy .0) hx hy
+weighs fx fy hx hy =
+    let q = square 500 (fx .0) (fy .0) hx hy in
+    record { east = q .east; north = q .north; all = q .all }
 
 -- a weight fits a u32
 pub weight-fits : (a b : ℕ) → a ≤ 500 → b ≤ 500 → Fits w32 (a * b)

@@ -28,12 +28,12 @@ mul-base-2 c = search needs
 returns-2 : tie.Need-returns-2
 returns-2 c =
     let file = c .before .before .before .boundaries .ensures in
-    sym (ap baseAnswer (base-next _ (omega arith) (rw file at (c .if2 .taken))))
+    sym (ap baseAnswer (base-next _ (omega arith) (omega (arith, rw file at (c .if2 .taken)))))
 
 returns-3 : tie.Need-returns-3
 returns-3 c =
     let file = c .before .before .before .boundaries .ensures in
-    sym (ap baseAnswer (base-own _ (omega arith) (rw file at (c .if2 .left))))
+    sym (ap baseAnswer (base-own _ (omega arith) (omega (arith, rw file at (c .if2 .left)))))
 
 pub base-at-spec : {M : Type 1} → statement M
 base-at-spec =
