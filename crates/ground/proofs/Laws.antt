@@ -1,12 +1,14 @@
--- The laws that belong to no one function. The rooms above cite those that are marked pub.
+-- The laws that belong to no one function. Those marked pub are for the functions' proofs and the rooms above.
 --     Every        a rule for every number below n, by one computed test
 --     Test         what a test says past a refusal, and at it
+--     Outcome      what an answer says of the steps before it
 --     Size         the axes of the grid and the weights, over the sizes
 --     Boundary     the southern boundaries, and the base of y
---     Ground       which base and zone are named, and which points a ground holds
+--     Ground       which base and zone are named, what a ground that was opened is, and which points a ground holds
 --     Place        where a point lies
 pub mod Every
 pub mod Test
+pub mod Outcome
 pub mod Size
 pub mod Boundary
 pub mod Ground

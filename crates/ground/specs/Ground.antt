@@ -19,10 +19,10 @@ groundOf b z = record { zone = z; south = yB b; north = yB (b + 4); rows = rows 
 abbrev pub opened : ℕ → ℕ → Outcome Ground
 opened b z = unless (not (named b z)) 2 (given (groundOf b z))
 
--- the answer as the caller gets it
-abbrev pub openedAnswer : Outcome Ground → Opened
-openedAnswer (given g) = On g
-openedAnswer (refused number place) = Refused number
+-- what each case of the answer means
+abbrev pub openedMeans : Opened → Outcome Ground
+openedMeans (On g) = given g
+openedMeans (Refused number) = refused number 0
 
 -- The ground holds eastings from 125,000 to 874,999 m, and northings whose y is from yB(b) to before yB(b+4). In metres that is document 01's
 -- "from 500 yB(b) to 500 yB(b+4) - 1": `held-in-metres` of proofs/Laws/Ground.antt shows it.

@@ -77,10 +77,10 @@ wordsOf s = record { sw = word s; se = word s + 1; nw = word s + 16; ne = word s
 abbrev pub located : Ground → Point → Outcome Place
 located g p = unless (not (holds g p)) 4 (given (placeOf g p))
 
--- the answer as the caller gets it
-abbrev pub locatedAnswer : Outcome Place → Located
-locatedAnswer (given s) = At s
-locatedAnswer (refused number place) = Refused number
+-- what each case of the answer means
+abbrev pub locatedMeans : Located → Outcome Place
+locatedMeans (At s) = given s
+locatedMeans (Refused number) = refused number 0
 
 -- position n of the index, for n from 1 to 3072, begins at byte 2 (n - 1) of the file; rectangle 0 has no position
 abbrev pub positionByte : ℕ → ℕ

@@ -1,7 +1,7 @@
 // The ground of a terrain file: its boundaries, its name, and where a point lies on it.
 ghost use mathlib.Core.Path.{_≡_};
-ghost use Rattle.ground.specs.Ground.{opened, openedAnswer, holds};
-ghost use Rattle.ground.specs.Place.{located, locatedAnswer};
+ghost use Rattle.ground.specs.Ground.{opened, openedMeans, holds};
+ghost use Rattle.ground.specs.Place.{located, locatedMeans};
 use measure::Units;
 use place::Place;
 use point::Point;
@@ -46,7 +46,7 @@ impl Ground {
 
     // The ground of the file of a base and a zone, or refusal 2.
     pub fn open(base: u32, zone: u32) -> Opened
-        ensures { λ r. ⌜ r ≡ openedAnswer (opened base zone) ⌝ }
+        ensures { λ r. ⌜ openedMeans r ≡ opened base zone ⌝ }
     {
         if !table::are_named(base, zone) {
             return Opened::Refused(2);
@@ -76,7 +76,7 @@ impl Ground {
 
     // Where the point lies, or refusal 4 where it is of another zone or not on the ground.
     pub fn locate(self, point: Point) -> Located
-        ensures { λ r. ⌜ r ≡ locatedAnswer (located self point) ⌝ }
+        ensures { λ r. ⌜ locatedMeans r ≡ located self point ⌝ }
     {
         if !self.holds(point) {
             return Located::Refused(4);

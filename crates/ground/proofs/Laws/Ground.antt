@@ -1,20 +1,25 @@
--- What it means that a base and a zone are named, and that a ground holds a point, as facts about the numbers; and that a ground holds
--- just the metres that document 01 says. From the definitions alone. Assumes nothing.
+-- What it means that a base and a zone are named, that a ground was opened, and that a ground holds a point, as facts about the numbers; and
+-- that a ground holds just the metres that document 01 says. From the laws of the boundaries and of outcomes. Assumes nothing.
 use mathlib.Core.Path.{_≡_}
 use mathlib.Core.Logic.{_↔_}
-use mathlib.Core.Bool.{true, _&&_, and-eq-true-iff}
+use mathlib.Core.Bool.{true, not, _&&_, and-eq-true-iff}
 use Prim.Native.Nat.{ℕ, _*_, _≤_, _<_}
 use native.Mathlib.Omega.{arith}
 use lib.Dec.{leb, ltb, eqb}
-use borrow.Author.Tests.{leb-true, ltb-true, eqb-true, le-leb, lt-ltb, eq-eqb}
+use borrow.Author.Tests.{leb-true, ltb-true, eqb-true, le-leb, lt-ltb, eq-eqb, not-false}
 use Rattle.ground.specs.Measure.{inUnits}
 use Rattle.ground.specs.Boundary.{isBase, isZone, named}
-use Rattle.ground.specs.Ground.{onGround, holds}
+use Rattle.ground.specs.Outcome.{given}
+use Rattle.ground.specs.Ground.{groundOf, opened, openedMeans, onGround, holds}
 use Rattle.ground.specs.declared.point.Point.{Point}
 use Rattle.ground.specs.declared.Ground.{Ground}
-use Rattle.ground.proofs.Laws.Boundary.{base-at}
+use Rattle.ground.specs.declared.Opened.{Opened}
+use Rattle.ground.specs.declared.Opened.the-variants.{On, Refused}
+use Rattle.ground.proofs.Laws.Outcome.{past}
+use Rattle.ground.proofs.Laws.Boundary.{base-at, rows-28-29}
 
 pub record Named (b z : ℕ) : Type 0 where
+  pub is : named b z ≡ true
   pub base : isBase b ≡ true
   pub most : b ≤ 80
   pub first : 1 ≤ z
@@ -26,11 +31,32 @@ named-is b z h =
     let t = and-eq-true-iff (isBase b) (isZone z) .0 h in
     let r = and-eq-true-iff (leb 1 z) (leb z 60) .0 (t .1) in
     record {
+      is = h;
       base = t .0;
       most = omega (arith, base-at b (t .0));
       first = leb-true _ _ (r .0);
       last = leb-true _ _ (r .1);
     }
+
+-- a ground that was opened is that of a base and a zone that are named, and has 28 or 29 rows
+pub record IsOpened (b z : ℕ) (g : Ground) : Type 0 where
+  pub named : Named b z
+  pub is : g ≡ groundOf b z
+  pub rows : (28 ≤ g .rows) × (g .rows ≤ 29)
+
+pub opened-is : (b z : ℕ) (g : Ground) → opened b z ≡ given g → IsOpened b z g
+opened-is b z g e =
+    let t = past (not (named b z)) 2 (given (groundOf b z)) g e in
+    let n = named-is b z (not-false _ (t .0)) in
+    let i : g ≡ groundOf b z = cc in
+    record { named = n; is = i; rows = rw i (rows-28-29 b (n .base)) }
+
+-- two answers that mean the same are the same
+pub opened-once : (r s : Opened) → openedMeans r ≡ openedMeans s → r ≡ s
+opened-once (On g) (On h) e = cc
+opened-once (On g) (Refused k) e = cc
+opened-once (Refused k) (On g) e = cc
+opened-once (Refused k) (Refused l) e = cc
 
 pub record Held (g : Ground) (p : Point) : Type 0 where
   pub zone : p .zone ≡ g .zone
@@ -67,7 +93,8 @@ holding g p t =
     )
 
 -- Document 01's own words: of the zone, eastings from 125,000 to 874,999 m, northings from 500 yB(b) to 500 yB(b+4) - 1 m
-pub held-in-metres : (g : Ground) (p : Point) → (holds g p ≡ true) ↔ ((p .zone ≡ g .zone) × (125000 ≤ p .easting .0) × (p .easting .0 ≤ 874999) × (500 * g .south .0 ≤ p .northing .0) × (p .northing .0 < 500 * g .north .0))
+pub held-in-metres : (g : Ground) (p : Point) → (holds g p ≡ true)
+    ↔ ((p .zone ≡ g .zone) × (125000 ≤ p .easting .0) × (p .easting .0 ≤ 874999) × (500 * g .south .0 ≤ p .northing .0) × (p .northing .0 < 500 * g .north .0))
 held-in-metres g p = (
   (λ h. let t = held g p h in omega arith),
   λ m. holding g p (record { zone = m .0; west = m .1; east = m .2; south = omega arith; north = omega arith }),

@@ -1,5 +1,6 @@
 -- What is so of the place of a point that its ground holds: it gives the point back, its rectangle is one of the file's, and the words of
--- its corners are words of a record; and the weights balance at the point and add up to 250,000. From the laws over the sizes. Assumes nothing.
+-- its corners are words of a record; and the weights balance at the point and add up to 250,000. From the laws over the sizes, of the
+-- boundaries and of the ground. Assumes nothing.
 use mathlib.Core.Path.{_≡_, refl}
 use mathlib.Core.Bool.{true}
 use Prim.Native.Nat.{ℕ, _+_, _-_, _*_, _/_, _≤_, _<_}
@@ -11,10 +12,12 @@ use mir.Val.{Fits}
 use Rattle.ground.specs.Measure.{inUnits}
 use Rattle.ground.specs.Boundary.{yB, rows}
 use Rattle.ground.specs.Ground.{groundOf, holds}
-use Rattle.ground.specs.Place.{number, weightsOf, placeAt, placeOf, word}
+use Rattle.ground.specs.Place.{number, weightsOf, placeAt, placeOf, word, locatedMeans}
 use Rattle.ground.specs.declared.measure.Metres.{Metres}
 use Rattle.ground.specs.declared.point.Point.{Point}
 use Rattle.ground.specs.declared.Ground.{Ground}
+use Rattle.ground.specs.declared.Located.{Located}
+use Rattle.ground.specs.declared.Located.the-variants.{At, Refused}
 use Rattle.ground.specs.declared.place.Place.{Place}
 use Rattle.ground.specs.declared.place.Weights.{Weights}
 use Rattle.ground.proofs.Laws.Size.{axis, square}
@@ -78,3 +81,10 @@ weighs fx fy hx hy =
 -- a weight fits a u32
 pub weight-fits : (a b : ℕ) → a ≤ 500 → b ≤ 500 → Fits w32 (a * b)
 weight-fits a b ha hb = record { fits = lt-of-le-of-lt (mul-le-mul ha hb) (lit< tt) }
+
+-- two answers that mean the same are the same
+pub located-once : (r s : Located) → locatedMeans r ≡ locatedMeans s → r ≡ s
+located-once (At a) (At b) e = cc
+located-once (At a) (Refused k) e = cc
+located-once (Refused k) (At a) e = cc
+located-once (Refused k) (Refused l) e = cc

@@ -1,0 +1,31 @@
+-- What is so of the steps of a call that came to an answer: each test before it was passed, and each step before it gave something.
+-- Assumes nothing.
+use mathlib.Core.Path.{_≡_, refl}
+use mathlib.Core.Bool.{Bool, true, false}
+use Prim.Native.Nat.{ℕ}
+use native.Mathlib.Omega.{arith}
+use Rattle.ground.specs.Outcome.{Outcome, given, refused, unless, _andThen_}
+
+-- a refusal is no answer
+not-both : {A : Type 0} {number place : ℕ} {a : A} → refused number place ≡ given a → ⊥
+not-both e = let z : _≡_ {A = ℕ} 0 1 = cc in omega arith
+
+-- past a test
+pub past : {A : Type 0} (t : Bool) (number : ℕ) (o : Outcome A) (a : A) → unless t number o ≡ given a → (t ≡ false) × (o ≡ given a)
+past true number o a e = absurd (not-both e)
+past false number o a e = (refl, e)
+
+-- past a step
+pub record Step {A B : Type 0} (o : Outcome A) (f : A → Outcome B) (b : B) : Type 0 where
+  pub value : A
+  pub gave : o ≡ given value
+  pub then : f value ≡ given b
+
+pub step : {A B : Type 0} (o : Outcome A) (f : A → Outcome B) (b : B) → (o andThen f) ≡ given b → Step o f b
+step (given a) f b e = record { value = a; gave = refl; then = e }
+step (refused number place) f b e = absurd (not-both e)
+
+-- steps may be taken together
+pub assoc : {A B C : Type 0} (o : Outcome A) (f : A → Outcome B) (g : B → Outcome C) → (o andThen f andThen g) ≡ (o andThen λ a. f a andThen g)
+assoc (given a) f g = refl
+assoc (refused number place) f g = refl

@@ -1,0 +1,107 @@
+-- What one corner weighs and says, and when it has no height; and of the four corners that the exact height lies between the elevations of
+-- those that weigh in. From the definitions alone. Assumes nothing.
+use mathlib.Core.Path.{_≡_, refl, sym, ap}
+use mathlib.Core.Logic.{_↔_}
+use mathlib.Core.Bool.{Bool, true, false, _||_}
+use mathlib.Core.List.{List}
+use Prim.Native.Nat.{ℕ, zero, suc, _+_, _*_, _≤_, _<_}
+use native.Mathlib.Nat.{zero-mul, add-mul, mul-le-mul-left}
+use native.Mathlib.Omega.{arith}
+use lib.Dec.{eqb}
+use borrow.Author.Tests.{eqb-true, eqb-false, eq-eqb, ne-eqb}
+use Rattle.terrain.specs.Bytes.{nth}
+use Rattle.terrain.specs.Corner.{elevationOf, corner, lacksHeight, anyLacksHeight, exactHeight}
+use Rattle.terrain.specs.Inside.{Sound, Weighed}
+use Rattle.terrain.specs.declared.corner.Corner.{Corner}
+use Rattle.terrain.specs.declared.corner.Corners.{Corners}
+
+weighs-in : (n : ℕ) → eqb (suc n) 0 ≡ false
+weighs-in n = ne-eqb (suc n) 0 λ e. omega arith
+
+module _ (bytes : List ℕ) (w : ℕ) where
+  -- The corner at a word of a record: its weight is that given, ..
+  pub corner-weight : (weight : ℕ) → corner bytes w weight .weight ≡ weight
+  unfolding corner
+  corner-weight zero = refl
+  corner-weight (suc n) = rw weighs-in
+
+  -- .. its part in the exact height is its weight times what its word says, ..
+  pub corner-part : (weight : ℕ) → corner bytes w weight .weight * corner bytes w weight .elevation ≡ weight * elevationOf (nth bytes w)
+  unfolding corner
+  corner-part zero = sym (zero-mul _)
+  corner-part (suc n) = rw weighs-in
+
+  -- .. and it has no height just where it weighs in and its word says so.
+  pub corner-lacks : (weight : ℕ) → (lacksHeight (corner bytes w weight) ≡ true) ↔ ((0 < weight) × (elevationOf (nth bytes w) ≡ 8191))
+  unfolding corner
+  corner-lacks zero = (λ e. absurd (eqb-false 0 8191 refl (eqb-true 0 8191 e)), λ h. absurd (omega arith))
+  corner-lacks (suc n) = rw weighs-in ((λ e. (omega arith, eqb-true _ _ e)), λ h. eq-eqb _ _ (h .1))
+
+-- what is so of each of the four
+pub record Each (P : Corner → Type 0) (c : Corners) : Type 0 where
+  pub sw : P (c .sw)
+  pub se : P (c .se)
+  pub nw : P (c .nw)
+  pub ne : P (c .ne)
+
+-- No corner lacks a height just where none says 8191.
+abbrev pub HasHeight : Corner → Type 0
+HasHeight k = k .elevation ≡ 8191 → ⊥
+
+neither : (a b : Bool) → (a || b) ≡ false → (a ≡ false) × (b ≡ false)
+neither false b e = (refl, e)
+neither true b e = (e, (cc))
+
+pub lacks-none : (c : Corners) → (anyLacksHeight c ≡ false) ↔ Each HasHeight c
+unfolding anyLacksHeight
+lacks-none c = (
+  (λ e.
+      let t = neither (lacksHeight (c .sw) || lacksHeight (c .se)) (lacksHeight (c .nw) || lacksHeight (c .ne)) e in
+      let s = neither (lacksHeight (c .sw)) (lacksHeight (c .se)) (t .0) in
+      let n = neither (lacksHeight (c .nw)) (lacksHeight (c .ne)) (t .1) in
+      record { sw = eqb-false _ _ (s .0); se = eqb-false _ _ (s .1); nw = eqb-false _ _ (n .0); ne = eqb-false _ _ (n .1) }),
+  λ h. simp (ne-eqb _ _ (h .sw), ne-eqb _ _ (h .se), ne-eqb _ _ (h .nw), ne-eqb _ _ (h .ne)),
+)
+
+-- A corner that weighs in lies between these elevations. So does its part in the exact height, for its weight, ..
+abbrev pub Between : ℕ → ℕ → Corner → Type 0
+Between lo hi k = 0 < k .weight → (lo ≤ k .elevation) × (k .elevation ≤ hi)
+
+part-within : {lo hi e : ℕ} (weight : ℕ) → (0 < weight → (lo ≤ e) × (e ≤ hi)) → (weight * lo ≤ weight * e) × (weight * e ≤ weight * hi)
+part-within zero h = omega arith
+part-within (suc n) h =
+    let b = h (omega arith) in
+    (mul-le-mul-left (suc n) (b .0), mul-le-mul-left (suc n) (b .1))
+
+-- .. which is so if its word says so ..
+pub corner-between : (bytes : List ℕ) (w lo hi weight : ℕ) → (0 < weight → (lo ≤ elevationOf (nth bytes w)) × (elevationOf (nth bytes w) ≤ hi))
+    → Between lo hi (corner bytes w weight)
+unfolding corner
+corner-between bytes w lo hi zero h = λ l. omega arith
+corner-between bytes w lo hi (suc n) h = rw weighs-in h
+
+-- .. and, as the weights add up to 250,000, the exact height.
+pub record HeightWithin (lo hi : ℕ) (c : Corners) : Type 0 where
+  pub least : 250000 * lo ≤ exactHeight c
+  pub most : exactHeight c ≤ 250000 * hi
+
+-- what the four corners weigh together
+abbrev pub allWeigh : Corners → ℕ
+allWeigh c = c .sw .weight + c .se .weight + (c .nw .weight + c .ne .weight)
+
+pub height-within : (lo hi : ℕ) (c : Corners) → allWeigh c ≡ 250000 → Each (Between lo hi) c → HeightWithin lo hi c
+unfolding exactHeight
+height-within lo hi c all h =
+    let sw = part-within _ (h .sw) in
+    let se = part-within _ (h .se) in
+    let nw = part-within _ (h .nw) in
+    let ne = part-within _ (h .ne) in
+    let low = simp add-mul at (ap (λ (t : ℕ). t * lo) all) in
+    let high = simp add-mul at (ap (λ (t : ℕ). t * hi) all) in
+    record { least = omega arith; most = omega arith }
+
+-- An elevation is at most 8191, so the exact height fits a u32.
+pub height-fits : (c : Corners) → Weighed c → exactHeight c ≤ 2047750000
+height-fits c w =
+    let one : (k : Corner) → Sound k → Between 0 8191 k = λ k s p. omega arith in
+    height-within 0 8191 c (w .all) (record { sw = one _ (w .sw); se = one _ (w .se); nw = one _ (w .nw); ne = one _ (w .ne) }) .most

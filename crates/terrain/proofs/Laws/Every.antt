@@ -1,0 +1,71 @@
+-- A test at each number of a range, against the facts at the numbers: `skip` adds numbers at which the test holds, `holds-at` is what the whole
+-- test says at one number, `fails-at` what a failure at one number says of the whole. From the definition of `every`. Assumes nothing.
+use mathlib.Core.Path.{_≡_, refl}
+use mathlib.Core.Bool.{Bool, true, false, _&&_, _||_, and-eq-true-iff, and-true, or-true}
+use mathlib.Core.Logic.{⊎-elim}
+use Prim.Native.Nat.{ℕ, zero, suc, _+_, _-_, _≤_, _<_}
+use native.Mathlib.Nat.{add-zero, add-suc, not-suc-le-zero, le-of-suc-le-suc, eq-or-lt-of-le, lt-of-not-le}
+use native.Mathlib.Numerals.{add-one}
+use native.Mathlib.Decide.{decLe}
+use native.Mathlib.Omega.{arith}
+use lib.Dec.{ltb}
+use borrow.Author.Tests.{lt-ltb, le-ltb}
+use Rattle.terrain.specs.Index.{every}
+
+module _ (test : ℕ → Bool) (first : ℕ) where
+  -- one number more
+  pub next : (n : ℕ) → first ≤ n → every test first (n + 1) ≡ (every test first n && test n)
+  unfolding every
+  next n h = rw (add-one, le-ltb n first h)
+
+  -- numbers more, at each of which the test holds
+  more : (n d : ℕ) → ((k : ℕ) → n ≤ k → k < n + d → test k ≡ true) → every test first (n + d) ≡ every test first n
+  unfolding every
+  more n zero t = rw add-zero
+  more n (suc d) t =
+      simp (
+        add-suc,
+        t (n + d) (omega arith) (omega arith),
+        or-true,
+        and-true,
+        more n d λ k l h. t k l (omega arith),
+      )
+
+  pub skip : (n m : ℕ) → n ≤ m → ((k : ℕ) → n ≤ k → k < m → test k ≡ true) → every test first m ≡ every test first n
+  skip n m h t =
+      let e : n + (m - n) ≡ m = omega arith in
+      rw e at (more n (m - n) λ k l u. t k l (omega arith))
+
+  -- the whole test, from the facts at the numbers ..
+  pub holds : (n : ℕ) → ((k : ℕ) → first ≤ k → k < n → test k ≡ true) → every test first n ≡ true
+  unfolding every
+  holds zero t = refl
+  holds (suc n) t = and-eq-true-iff (every test first n) (ltb n first || test n) .1 (
+    holds n (λ k l h. t k l (omega arith)),
+    in-range (decLe first n),
+  )
+    where
+      in-range : Dec (first ≤ n) → (ltb n first || test n) ≡ true
+      in-range (yes l) = simp (t n l (omega arith), or-true)
+      in-range (no g) = simp (lt-ltb n first (lt-of-not-le g))
+
+  pub none : every test first first ≡ true
+  none = holds first λ k l h. absurd (omega arith)
+
+  -- .. and the fact at a number, from the whole test
+  pub holds-at : (n : ℕ) → every test first n ≡ true → (k : ℕ) → first ≤ k → k < n → test k ≡ true
+  unfolding every
+  holds-at zero e k l h = absurd (not-suc-le-zero h)
+  holds-at (suc n) e k l h =
+      let t = and-eq-true-iff (every test first n) (ltb n first || test n) .0 e in
+      ⊎-elim
+      (λ (q : k ≡ n). rw q (rw (le-ltb n first (omega arith)) at (t .1)))
+      (λ (u : k < n). holds-at n (t .0) k l u)
+      (eq-or-lt-of-le (le-of-suc-le-suc h))
+
+  pub fails-at : (n k : ℕ) → first ≤ k → k < n → test k ≡ false → every test first n ≡ false
+  fails-at n k l h e = not-so (every test first n) refl
+    where
+      not-so : (b : Bool) → every test first n ≡ b → every test first n ≡ false
+      not-so false q = q
+      not-so true q = cc (holds-at n q k l h)

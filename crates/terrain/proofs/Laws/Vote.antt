@@ -1,0 +1,157 @@
+-- What `vote` means: its code has the greatest sum of weights, and of those that tie it is the smallest; no other code has both. Besides,
+-- how the sums come about, one corner at a time, in a list with a place for each code. Assumes nothing.
+use mathlib.Core.Path.{_≡_, refl, sym, _∙_, ap}
+use mathlib.Core.Logic.{⊎-elim}
+use mathlib.Core.Bool.{Bool, true, false, cond}
+use mathlib.Core.List.{List, [], _∷_}
+use Prim.Native.Nat.{ℕ, zero, suc, _+_, _≤_, _<_}
+use native.Mathlib.Nat.{le-refl, le-of-eq, eq-or-lt-of-le}
+use native.Mathlib.Decide.{decLt}
+use native.Mathlib.Omega.{arith}
+use lib.Dec.{eqb}
+use lib.ListN.{length, getD, set, replicate, length-set, getD-replicate}
+use lib.Seq.{getD-set-same, getD-set-other}
+use borrow.Author.Tests.{lt-ltb, le-ltb, ne-eqb, eqb-true, eqb-false}
+use Rattle.terrain.specs.Bytes.{nth}
+use Rattle.terrain.specs.Corner.{codeOf, corner}
+use Rattle.terrain.specs.Vote.{weightFor, sumFor, greatest, vote}
+use Rattle.terrain.specs.declared.corner.Corner.{Corner}
+use Rattle.terrain.specs.declared.corner.Corners.{Corners}
+
+-- Document 01's phrases for it: one of the numbers 0 to n, f is greatest there, and every smaller number has less, so ties go to the smaller
+pub record Greatest (f : ℕ → ℕ) (n best : ℕ) : Type 0 where
+  pub within : best ≤ n
+  pub most : (k : ℕ) → k ≤ n → f k ≤ f best
+  pub tie : (k : ℕ) → k < best → f k < f best
+
+-- there is one such number
+pub greatest-only : {f : ℕ → ℕ} {n a b : ℕ} → Greatest f n a → Greatest f n b → a ≡ b
+greatest-only {f} {n} {a} {b} g h = go (decLt a b) (decLt b a)
+  where
+    go : Dec (a < b) → Dec (b < a) → a ≡ b
+    go (yes l) d = omega (arith, h .tie a l, g .most b (h .within))
+    go (no l) (yes m) = omega (arith, g .tie b m, h .most a (g .within))
+    go (no l) (no m) = omega arith
+
+-- it is 0 at first; the next number takes its place if f is greater there, and else it stays
+pub at-first : (f : ℕ → ℕ) → Greatest f 0 0
+at-first f =
+    record {
+      within = le-refl 0;
+      most = λ k l. let e : k ≡ 0 = omega arith in rw e (le-refl (f 0));
+      tie = λ k l. omega arith;
+    }
+
+pub replaced : {f : ℕ → ℕ} {n best : ℕ} (m : ℕ) → m ≡ suc n → Greatest f n best → f best < f m → Greatest f m m
+replaced {f} m s g h =
+    record {
+      within = le-refl m;
+      most = λ k l. ⊎-elim (λ e. le-of-eq (ap f e)) (λ lt. omega (arith, g .most k (omega arith))) (eq-or-lt-of-le l);
+      tie = λ k l. omega (arith, g .most k (omega arith));
+    }
+
+pub kept : {f : ℕ → ℕ} {n best : ℕ} (m : ℕ) → m ≡ suc n → Greatest f n best → f m ≤ f best → Greatest f m best
+kept m s g h =
+    record {
+      within = omega arith;
+      most = λ k l. ⊎-elim (λ e. rw e h) (λ lt. g .most k (omega arith)) (eq-or-lt-of-le l);
+      tie = g .tie;
+    }
+
+-- and it is what `greatest` gives, which so depends on f at the numbers 0 to n alone
+pub greatest-is : (f : ℕ → ℕ) (n : ℕ) → Greatest f n (greatest f n)
+unfolding greatest
+greatest-is f zero = at-first f
+greatest-is f (suc n) = go (greatest-is f n) (decLt (f (greatest f n)) (f (suc n)))
+  where
+    go : Greatest f n (greatest f n) → Dec (f (greatest f n) < f (suc n)) → Greatest f (suc n) (greatest f (suc n))
+    go g (yes h) = rw (lt-ltb _ _ h) (replaced (suc n) refl g h)
+    go g (no h) = let l : f (suc n) ≤ f (greatest f n) = omega arith in rw (le-ltb _ _ l) (kept (suc n) refl g l)
+
+greatest-same : (f g : ℕ → ℕ) (n : ℕ) → ((k : ℕ) → k ≤ n → f k ≡ g k) → greatest f n ≡ greatest g n
+greatest-same f g n e =
+    let q = greatest-is g n in
+    let at = e (greatest g n) (q .within) in
+    greatest-only
+    (greatest-is f n)
+    (record {
+      within = q .within;
+      most = λ k l. omega (arith, e k l, q .most k l);
+      tie = λ k l. omega (arith, e k (omega arith), q .tie k l);
+    })
+
+-- so it is of every function with the same values
+pub greatest-by : {f g : ℕ → ℕ} {n best : ℕ} → ((k : ℕ) → f k ≡ g k) → Greatest f n best → Greatest g n best
+greatest-by {best = best} e h =
+    record {
+      within = h .within;
+      most = λ k l. omega (arith, e k, e best, h .most k l);
+      tie = λ k l. omega (arith, e k, e best, h .tie k l);
+    }
+
+-- The surface code: of the codes 0 to 7, the one with the greatest sum of weights, ties to the smaller code.
+pub vote-is : (c : Corners) → Greatest (sumFor c) 7 (vote c)
+unfolding vote
+vote-is c = greatest-is (sumFor c) 7
+
+-- a corner of weight 0, which is not looked at, weighs for its word's code what it weighs for every other
+same : (t : Bool) → _≡_ {A = ℕ} (cond t 0 0) 0
+same true = refl
+same false = refl
+
+pub corner-for : (bytes : List ℕ) (code w weight : ℕ) → weightFor code (corner bytes w weight) ≡ cond (eqb (codeOf (nth bytes w)) code) weight 0
+unfolding corner
+corner-for bytes code w zero = same (eqb 0 code) ∙ sym (same (eqb (codeOf (nth bytes w)) code))
+corner-for bytes code w (suc n) = rw (ne-eqb (suc n) 0 λ e. omega arith)
+
+-- A corner is counted by adding its weight to the sum of its code, in a list with a place for each code: the other sums stay.
+abbrev added : List ℕ → Corner → List ℕ
+added l c = set l (c .code) (getD l (c .code) 0 + c .weight)
+
+added-at : (l : List ℕ) (c : Corner) (code : ℕ) → c .code < length l → getD (added l c) code 0 ≡ getD l code 0 + weightFor code c
+added-at l c code h = go (eqb (c .code) code) refl
+  where
+    go : (b : Bool) → eqb (c .code) code ≡ b → getD (added l c) code 0 ≡ getD l code 0 + weightFor code c
+    go true e = rw (e, ← eqb-true (c .code) code e, getD-set-same l (c .code))
+    go false e = rw (e, getD-set-other l (c .code) code _ 0 (λ q. eqb-false (c .code) code e (sym q))) (omega arith)
+
+at-most : (b : Bool) (weight : ℕ) → cond b weight 0 ≤ weight
+at-most true weight = le-refl weight
+at-most false weight = omega arith
+
+-- what corners weigh for a code, and what they weigh in all
+abbrev pub sumOf : List Corner → ℕ → ℕ
+sumOf [] code = 0
+sumOf (c ∷ cs) code = sumOf cs code + weightFor code c
+
+abbrev pub weightOf : List Corner → ℕ
+weightOf [] = 0
+weightOf (c ∷ cs) = weightOf cs + c .weight
+
+-- the list after these corners are counted: it has the sum of each code, and none is above what the corners weigh in all
+pub record Counted (l : List ℕ) (cs : List Corner) : Type 0 where
+  pub places : length l ≡ 8
+  pub sums : (code : ℕ) → code ≤ 7 → getD l code 0 ≡ sumOf cs code
+  pub most : (code : ℕ) → code ≤ 7 → getD l code 0 ≤ weightOf cs
+
+pub none-counted : Counted (replicate 8 0) []
+none-counted =
+    record {
+      places = refl;
+      sums = λ code h. getD-replicate 8 code 0 0 (omega arith);
+      most = λ code h. le-of-eq (getD-replicate 8 code 0 0 (omega arith));
+    }
+
+pub one-more : {l m : List ℕ} {cs : List Corner} (c : Corner) → c .code ≤ 7 → Counted l cs → m ≡ added l c → Counted m (c ∷ cs)
+one-more {l} c h g e =
+    let at : (code : ℕ) → getD (added l c) code 0 ≡ getD l code 0 + weightFor code c = λ code. added-at l c code (omega arith) in
+    record {
+      places = rw (e, length-set) (g .places);
+      sums = λ code k. rw (e, at code, g .sums code k);
+      most = λ code k. rw (e, at code) (omega (arith, g .most code k, at-most (eqb (c .code) code) (c .weight)));
+    }
+
+-- so, once the four corners are counted, the greatest sum in the list is the vote
+pub counted-vote : {l : List ℕ} (c : Corners) → Counted l (c .ne ∷ c .nw ∷ c .se ∷ c .sw ∷ []) → greatest (λ code. getD l code 0) 7 ≡ vote c
+unfolding vote sumFor
+counted-vote {l} c g = greatest-same (λ code. getD l code 0) (sumFor c) 7 (λ code h. omega (arith, g .sums code h))

@@ -1,0 +1,102 @@
+-- Some file passes the check, and a point of it is read: so no law of a file that passes speaks of nothing. In the file rectangle 50 has record 7,
+-- M is 7, and every other byte is 0. Assumes nothing.
+use mathlib.Core.Path.{_≡_, refl, sym, _∙_}
+use mathlib.Core.Logic.{_⊎_, inl, inr}
+use mathlib.Core.Bool.{Bool, true, false}
+use mathlib.Core.List.{List}
+use Prim.Native.Nat.{ℕ, _+_, _-_, _*_, _≤_, _<_}
+use native.Mathlib.Omega.{arith}
+use lib.Dec.{eqb}
+use lib.ListN.{length, getD, set, replicate, length-set, length-replicate, getD-replicate}
+use lib.Seq.{getD-set-other}
+use borrow.Author.Tests.{eqb-true, eqb-false}
+use Rattle.ground.specs.Outcome.{given}
+use Rattle.ground.specs.Measure.{metres}
+use Rattle.ground.specs.Boundary.{yB, rows, named}
+use Rattle.ground.specs.Ground.{onGround, holds}
+use Rattle.ground.specs.Place.{weightsOf, placeAt, placeOf}
+use Rattle.ground.specs.declared.point.Point.{Point}
+use Rattle.terrain.specs.Bytes.{nth, recordBytes}
+use Rattle.terrain.specs.Index.{position, highest, Passes}
+use Rattle.terrain.specs.Record.{entry}
+use Rattle.terrain.specs.Reading.{reading}
+use Rattle.terrain.specs.declared.reading.Reading.{Reading}
+use Rattle.terrain.proofs.Laws.Checked.{check-passes}
+use Rattle.terrain.proofs.Laws.Reading.{read-exactly}
+
+unfoldable zeros : List ℕ
+zeros = replicate 7168 0
+
+unfoldable pub file : List ℕ
+unfolding zeros
+file = set (set zeros 99 7) 6143 7
+
+zeros-long : length zeros ≡ 7168
+unfolding zeros
+zeros-long = length-replicate {A = ℕ} 7168 0
+
+long : length file ≡ 7168
+unfolding file
+long = simp (length-set, zeros-long)
+
+zero-at : (i : ℕ) → i < 7168 → (i ≡ 99 → ⊥) → (i ≡ 6143 → ⊥) → getD file i 0 ≡ 0
+unfolding file zeros
+zero-at i h a b = getD-set-other (set zeros 99 7) 6143 i 7 0 b ∙ getD-set-other zeros 99 i 7 0 a ∙ getD-replicate 7168 i 0 0 h
+
+-- what the index holds
+at-50 : position file 50 ≡ 7
+unfolding nth file zeros
+at-50 = refl
+
+M : highest file ≡ 7
+unfolding nth file zeros
+M = refl
+
+empty : (n : ℕ) → 1 ≤ n → n ≤ 3071 → (n ≡ 50 → ⊥) → position file n ≡ 0
+unfolding nth
+empty n a b c =
+    rw (
+      zero-at (2 * (n - 1)) (omega arith) (λ e. omega arith) (λ e. omega arith),
+      zero-at (2 * (n - 1) + 1) (omega arith) (λ e. c (omega arith)) (λ e. omega arith),
+    )
+
+is-50 : (n : ℕ) → Dec (n ≡ 50)
+is-50 n = go (eqb n 50) refl
+  where
+    go : (t : Bool) → eqb n 50 ≡ t → Dec (n ≡ 50)
+    go true e = yes (eqb-true _ _ e)
+    go false e = no (eqb-false _ _ e)
+
+pub some-passes : Passes file 28
+some-passes =
+    record {
+      whole = omega (arith, long);
+      least = omega (arith, long);
+      most = omega (arith, long);
+      lowestM = omega (arith, M);
+      highestM = omega (arith, M, long);
+      entries = λ n a b. entries n a b (is-50 n);
+      once = λ m n a b c e. once m n a b c e (is-50 n);
+      rest = λ n a b. empty n (omega arith) b (λ e. omega arith);
+    }
+  where
+    entries : (n : ℕ) → 1 ≤ n → n < 2800 → Dec (n ≡ 50) → (position file n ≡ 0) ⊎ ((7 ≤ position file n) × (position file n ≤ highest file))
+    entries n a b (yes e) = inr (rw e (omega (arith, at-50, M)))
+    entries n a b (no e) = inl (empty n a (omega arith) e)
+
+    once : (m n : ℕ) → 1 ≤ m → m < n → n < 2800 → position file m ≡ position file n → Dec (n ≡ 50) → position file n ≡ 0
+    once m n a b c e (yes q) = sym e ∙ empty m a (omega arith) (λ r. omega arith)
+    once m n a b c e (no q) = empty n (omega arith) (omega arith) q
+
+-- at the south-west corner of rectangle 50
+abbrev pub corner : Point
+corner = record { zone = 17; easting = metres 500000; northing = metres 4433000 }
+
+pub some-read : (r : Reading) × (reading file 40 17 corner ≡ given r)
+unfolding yB rows named onGround holds weightsOf placeAt placeOf nth recordBytes entry file zeros
+some-read =
+    read-exactly file 40 17 _ (check-passes file 40 17 refl some-passes) corner refl .1
+    (record {
+      covered = refl;
+      heights = record { sw = λ l e. omega arith; se = λ l e. omega arith; nw = λ l e. omega arith; ne = λ l e. omega arith };
+    })

@@ -1,0 +1,55 @@
+-- `engine_point` meets its contract: what `read_point` says, with the height in metres, as water or land by its code. Assumes nothing.
+use mathlib.Core.Path.{_≡_, sym}
+use borrow.Author.Needs.{needs}
+use Rattle.ground.specs.Outcome.{given}
+use Rattle.terrain.specs.Reading.{reading}
+use Rattle.terrain.proofs.engine.engine_point.Statement.{statement}
+use Rattle.terrain.proofs.engine.engine_point.Tie as tie
+
+read-point-requires : tie.Need-read-point-requires
+read-point-requires c κs = search needs
+
+enum-known-reading : tie.Need-enum-known-reading
+enum-known-reading c = search needs
+
+-- the reading of the point
+read : (c : tie.After-reading) → (
+    let a = c .before .before .before .before .args in
+    reading (a .file .now) (a .base) (a .zone) (a .point) ≡ given (c .reading .given .0 .0)
+    )
+read c = sym (rw (c .reading .given .1) at (c .before .before .read-point .ensures))
+
+metres-of-requires : tie.Need-metres-of-requires
+metres-of-requires c κs = search needs
+
+is-water-requires : tie.Need-is-water-requires
+is-water-requires c κs = search needs
+
+enum-known-number : tie.Need-enum-known-number
+enum-known-number c = search needs
+
+returns : tie.Need-returns
+returns c =
+    let at = c .before in
+    simp (read (at .before .before .before), ← at .is-water .ensures, c .if1 .taken, at .before .metres-of .ensures)
+
+returns-2 : tie.Need-returns-2
+returns-2 c =
+    let at = c .before in
+    simp (read (at .before .before .before), ← at .is-water .ensures, c .if1 .left, at .before .metres-of .ensures)
+
+returns-3 : tie.Need-returns-3
+returns-3 c = simp (← (rw (c .before .number .given .1) at (c .before .before .before .read-point .ensures)))
+
+pub engine-point-spec : {M : Type 1} → statement M
+engine-point-spec =
+    tie.close
+    (tie.spec
+    read-point-requires
+    enum-known-reading
+    metres-of-requires
+    is-water-requires
+    enum-known-number
+    returns
+    returns-2
+    returns-3)

@@ -1,0 +1,41 @@
+-- The check of a terrain file. Document 01, "Bytes of a file" and "The numbers we say no with". Assumes nothing.
+use mathlib.Core.Path.{_≡_}
+use mathlib.Core.Bool.{not}
+use mathlib.Core.List.{List}
+use Prim.Native.Nat.{ℕ}
+use Rattle.ground.specs.Outcome.{Outcome, given, refused, unless, _andThen_, refusalNumber, refusalPlace, filledBy}
+use Rattle.ground.specs.Boundary.{rows, named}
+use Rattle.ground.specs.Ground.{groundOf}
+use Rattle.terrain.specs.Index.{highest, wholeRecords, indexPasses}
+use Rattle.terrain.specs.declared.check.Terrain.{Terrain}
+use Rattle.terrain.specs.declared.check.CheckAnswer.{CheckAnswer}
+use Rattle.terrain.specs.declared.check.Checked.{Checked}
+use Rattle.terrain.specs.declared.check.Checked.the-variants.{Passed, Refused}
+
+-- refusals 1, 2, 3, in that order; a file that passes has a ground and M
+unfoldable pub checked : List ℕ → ℕ → ℕ → Outcome Terrain
+checked file b z =
+    unless (not (wholeRecords file)) 1
+    (unless (not (named b z)) 2
+    (unless (not (indexPasses file (rows b))) 3
+    (given (record { ground = groundOf b z; highest = highest file }))))
+
+-- what each case of `Checked` says: the file, or that refusal
+abbrev pub checkedMeans : Checked → Outcome Terrain
+checkedMeans (Passed t) = given t
+checkedMeans (Refused number) = refused number 0
+
+-- the answer as the caller gets it: a check that passes answers M
+abbrev pub checkAnswer : Outcome Terrain → CheckAnswer
+checkAnswer o =
+    record {
+      refusal = refusalNumber o;
+      place = refusalPlace o;
+      highest = filledBy 0 (o andThen λ t. given (t .highest));
+    }
+
+-- This is what the check gave for the file, with some base and zone: what the calls on a checked file ask for.
+pub record Gave (file : List ℕ) (t : Terrain) : Type 0 where
+  pub base : ℕ
+  pub zone : ℕ
+  pub gave : checked file base zone ≡ given t

@@ -1,0 +1,46 @@
+// The surface code of a point: the corners' vote.
+ghost use mathlib.Core.Path.{_≡_};
+ghost use Prim.Native.Nat.{_+_, _≤_, _<_};
+ghost use lib.ListN.{getD, set};
+ghost use Rattle.terrain.specs.Inside.{Weighed};
+ghost use Rattle.terrain.specs.Vote.{vote, greatest};
+use crate::corner::Corner;
+use crate::corner::Corners;
+
+// Surface codes.
+const CODES: usize = 8;
+
+// Adds the corner's weight to the sum of its code.
+fn count(sums: &mut [u32; CODES], corner: Corner)
+    requires { ⌜ (corner .code < 8) × (getD (now sums) (corner .code) 0 + corner .weight ≤ 250000) ⌝ }
+    ensures { λ r. ⌜ now (sums .exit) ≡ set (now (sums .entry)) (corner .code) (getD (now (sums .entry)) (corner .code) 0 + corner .weight) ⌝ }
+{
+    let code = corner.code as usize;
+    sums[code] = sums[code] + corner.weight;
+}
+
+// The code with the greatest sum, the smallest of those where sums tie.
+fn greatest_of(sums: &[u32; CODES]) -> u32
+    ensures { λ r. ⌜ r ≡ greatest (λ code. getD (now (sums .entry)) code 0) 7 ⌝ }
+{
+    let mut best = 0;
+    for code in 1..CODES {
+        if sums[best] < sums[code] {
+            best = code;
+        }
+    }
+    best as u32
+}
+
+// The surface code with the greatest sum of weights, ties to the smaller code.
+pub(crate) fn vote(corners: Corners) -> u32
+    requires { ⌜ Weighed corners ⌝ }
+    ensures { λ r. ⌜ r ≡ vote corners ⌝ }
+{
+    let mut sums = [0u32; CODES];
+    count(&mut sums, corners.sw);
+    count(&mut sums, corners.se);
+    count(&mut sums, corners.nw);
+    count(&mut sums, corners.ne);
+    greatest_of(&sums)
+}
