@@ -12,9 +12,10 @@ use crate::number::nth;
 use ground::Located;
 use ground::place::Place;
 use ground::point::Point;
+use ground::rectangle::Rectangle;
 
-// Bytes of a record.
-pub(crate) const LENGTH: usize = 1024;
+// Bytes of a record: two for each word of a rectangle.
+pub(crate) const LENGTH: usize = 2 * Rectangle::WIDE * Rectangle::HIGH;
 
 // No bytes, as a part of the file.
 fn no_bytes(file: &[u8]) -> &[u8]
