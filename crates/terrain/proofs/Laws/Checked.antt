@@ -1,14 +1,15 @@
 -- What is so of a file that passed its check: it keeps document 01's rules on the ground that it was opened with, so that the record of a covered
 -- rectangle lies in the file, is 1024 bytes long and is that rectangle's own; and what a place on that ground reaches. Assumes nothing.
 use mathlib.Core.Path.{_≡_, refl, sym, _∙_}
-use mathlib.Core.Bool.{Bool, true, false, not, false≢true}
+use mathlib.Core.Bool.{Bool, true, false, not, not-eq-not, false≢true}
 use mathlib.Core.List.{List}
 use mathlib.Core.Logic.{_↔_, _⊎_, inl, ⊎-elim}
 use Prim.Native.Nat.{ℕ, zero, suc, _*_, _≤_, _<_}
 use native.Mathlib.Decide.{decLt}
 use native.Mathlib.Omega.{arith}
+use lib.Dec.{eqb·suc-zero}
 use lib.ListN.{length, length-take, length-drop}
-use borrow.Author.Tests.{ne-eqb, eqb-false, not-true, not-false}
+use borrow.Author.Tests.{eqb-false, not-true, not-false}
 use denote.Ref.{RefT}
 use Rattle.ground.specs.Outcome.{Outcome, given, refused, unless, _andThen_}
 use Rattle.ground.specs.Boundary.{rows, named}
@@ -75,8 +76,7 @@ covered-is : (file : List ℕ) (n : ℕ) → covered file n ≡ true → Covered
 unfolding entry
 covered-is file zero c = absurd (false≢true c)
 covered-is file (suc n) c =
-    let e = ne-eqb (suc n) 0 λ z. omega arith in
-    record { first = omega arith; entry = rw e; some = eqb-false _ _ (not-true _ (rw e at c)) }
+    record { first = omega arith; entry = rw eqb·suc-zero; some = eqb-false _ _ (not-true _ (rw (eqb·suc-zero n) at c)) }
 
 -- a record that lies in the file is 1024 bytes long, so that what is taken is empty exactly if the rectangle is not covered
 pub record-long : (file : List ℕ) (n : ℕ) → 1024 * entry file n ≤ length file → covered file n ≡ true
@@ -90,26 +90,18 @@ module _ (file : List ℕ) (s : Place) where
   pub uncovered : 1024 * entry file (number (s .rectangle)) ≤ length file → length (takenBytes (taken file s)) ≡ 0
       → covered file (number (s .rectangle)) ≡ false
   unfolding taken
-  uncovered h e = go (covered file (number (s .rectangle))) refl
-    where
-      go : (t : Bool) → covered file (number (s .rectangle)) ≡ t → covered file (number (s .rectangle)) ≡ false
-      go true c = absurd (omega (arith, record-long file (number (s .rectangle)) h c, simp c at e))
-      go false c = c
+  uncovered h e = not-eq-not {b = false} .0 λ c. omega (arith, record-long file (number (s .rectangle)) h c, simp c at e)
 
   pub covers : (length (takenBytes (taken file s)) ≡ 0 → ⊥) → covered file (number (s .rectangle)) ≡ true
   unfolding taken
-  covers e = go (covered file (number (s .rectangle))) refl
-    where
-      go : (t : Bool) → covered file (number (s .rectangle)) ≡ t → covered file (number (s .rectangle)) ≡ true
-      go true c = c
-      go false c = absurd (e (simp c))
+  covers e = not-eq-not {b = true} .0 λ (c : covered file (number (s .rectangle)) ≡ false). e (simp c)
 
 module _ {file : List ℕ} {rows : ℕ} (p : Passes file rows) where
   -- what the index says of a rectangle of the file: nothing, or a record from 7 to M
   entry-is : (n : ℕ) → n < 100 * rows → (entry file n ≡ 0) ⊎ ((7 ≤ entry file n) × (entry file n ≤ highest file))
   unfolding entry
   entry-is zero h = inl refl
-  entry-is (suc n) h = rw (ne-eqb (suc n) 0 λ e. omega arith) (p .entries (suc n) (omega arith) h)
+  entry-is (suc n) h = rw eqb·suc-zero (p .entries (suc n) (omega arith) h)
 
   -- so the record of a covered rectangle is past the index, lies in the file ..
   pub record-past : (n : ℕ) → n < 100 * rows → covered file n ≡ true → 7 ≤ entry file n

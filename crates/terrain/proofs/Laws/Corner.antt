@@ -7,7 +7,7 @@ use mathlib.Core.List.{List}
 use Prim.Native.Nat.{ℕ, zero, suc, _+_, _*_, _≤_, _<_}
 use native.Mathlib.Nat.{zero-mul, add-mul, mul-le-mul-left}
 use native.Mathlib.Omega.{arith}
-use lib.Dec.{eqb}
+use lib.Dec.{eqb·suc-zero}
 use borrow.Author.Tests.{eqb-true, eqb-false, eq-eqb, ne-eqb}
 use Rattle.terrain.specs.Bytes.{nth}
 use Rattle.terrain.specs.Corner.{elevationOf, corner, lacksHeight, anyLacksHeight, exactHeight}
@@ -15,27 +15,24 @@ use Rattle.terrain.specs.Inside.{Sound, Weighed}
 use Rattle.terrain.specs.declared.corner.Corner.{Corner}
 use Rattle.terrain.specs.declared.corner.Corners.{Corners}
 
-weighs-in : (n : ℕ) → eqb (suc n) 0 ≡ false
-weighs-in n = ne-eqb (suc n) 0 λ e. omega arith
-
 module _ (bytes : List ℕ) (w : ℕ) where
   -- The corner at a word of a record: its weight is that given, ..
   pub corner-weight : (weight : ℕ) → corner bytes w weight .weight ≡ weight
   unfolding corner
   corner-weight zero = refl
-  corner-weight (suc n) = rw weighs-in
+  corner-weight (suc n) = rw eqb·suc-zero
 
   -- .. its part in the exact height is its weight times what its word says, ..
   pub corner-part : (weight : ℕ) → corner bytes w weight .weight * corner bytes w weight .elevation ≡ weight * elevationOf (nth bytes w)
   unfolding corner
   corner-part zero = sym (zero-mul _)
-  corner-part (suc n) = rw weighs-in
+  corner-part (suc n) = rw eqb·suc-zero
 
   -- .. and it has no height just where it weighs in and its word says so.
   pub corner-lacks : (weight : ℕ) → (lacksHeight (corner bytes w weight) ≡ true) ↔ ((0 < weight) × (elevationOf (nth bytes w) ≡ 8191))
   unfolding corner
   corner-lacks zero = (λ e. absurd (eqb-false 0 8191 refl (eqb-true 0 8191 e)), λ h. absurd (omega arith))
-  corner-lacks (suc n) = rw weighs-in ((λ e. (omega arith, eqb-true _ _ e)), λ h. eq-eqb _ _ (h .1))
+  corner-lacks (suc n) = rw eqb·suc-zero ((λ e. (omega arith, eqb-true _ _ e)), λ h. eq-eqb _ _ (h .1))
 
 -- what is so of each of the four
 pub record Each (P : Corner → Type 0) (c : Corners) : Type 0 where
@@ -78,7 +75,7 @@ pub corner-between : (bytes : List ℕ) (w lo hi weight : ℕ) → (0 < weight �
     → Between lo hi (corner bytes w weight)
 unfolding corner
 corner-between bytes w lo hi zero h = λ l. omega arith
-corner-between bytes w lo hi (suc n) h = rw weighs-in h
+corner-between bytes w lo hi (suc n) h = rw eqb·suc-zero h
 
 -- .. and, as the weights add up to 250,000, the exact height.
 pub record HeightWithin (lo hi : ℕ) (c : Corners) : Type 0 where

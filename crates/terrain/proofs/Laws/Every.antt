@@ -1,7 +1,7 @@
 -- A test at each number of a range, against the facts at the numbers: `skip` adds numbers at which the test holds, `holds-at` is what the whole
 -- test says at one number, `fails-at` what a failure at one number says of the whole. From the definition of `every`. Assumes nothing.
-use mathlib.Core.Path.{_≡_, refl}
-use mathlib.Core.Bool.{Bool, true, false, _&&_, _||_, and-eq-true-iff, and-true, or-true}
+use mathlib.Core.Path.{_≡_, refl, sym, _∙_}
+use mathlib.Core.Bool.{Bool, true, false, _&&_, _||_, and-eq-true-iff, and-true, or-true, not-eq-not, true≢false}
 use mathlib.Core.Logic.{⊎-elim}
 use Prim.Native.Nat.{ℕ, zero, suc, _+_, _-_, _≤_, _<_}
 use native.Mathlib.Nat.{add-zero, add-suc, not-suc-le-zero, le-of-suc-le-suc, eq-or-lt-of-le, lt-of-not-le}
@@ -64,8 +64,4 @@ module _ (test : ℕ → Bool) (first : ℕ) where
       (eq-or-lt-of-le (le-of-suc-le-suc h))
 
   pub fails-at : (n k : ℕ) → first ≤ k → k < n → test k ≡ false → every test first n ≡ false
-  fails-at n k l h e = not-so (every test first n) refl
-    where
-      not-so : (b : Bool) → every test first n ≡ b → every test first n ≡ false
-      not-so false q = q
-      not-so true q = cc (holds-at n q k l h)
+  fails-at n k l h e = not-eq-not {b = false} .0 λ q. true≢false (sym (holds-at n q k l h) ∙ e)

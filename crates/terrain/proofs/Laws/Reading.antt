@@ -182,5 +182,5 @@ module _ (file : List ℕ) (b z : ℕ) (t : Terrain) (c : checked file b z ≡ g
         own = λ m u v. own k m (number (s .rectangle)) u n v (q .0 .covered);
         within = λ lo hi a. let w = between lo hi all a in (w .least, w .most);
         most = between 0 8190 all (each (λ v k f u. omega (arith, f u)) (q .0 .heights)) .most;
-        code = greatest-by (sum-is (recordAt file s) (wordsOf s) (s .weights)) (vote-is (cornersIn file s));
+        code = greatest-by (λ k l. sum-is (recordAt file s) (wordsOf s) (s .weights) k) (vote-is (cornersIn file s));
       })

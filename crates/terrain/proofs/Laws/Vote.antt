@@ -8,10 +8,10 @@ use Prim.Native.Nat.{ℕ, zero, suc, _+_, _≤_, _<_}
 use native.Mathlib.Nat.{le-refl, le-of-eq, eq-or-lt-of-le}
 use native.Mathlib.Decide.{decLt}
 use native.Mathlib.Omega.{arith}
-use lib.Dec.{eqb}
+use lib.Dec.{eqb, eqb·suc-zero}
 use lib.ListN.{length, getD, set, replicate, length-set, getD-replicate}
 use lib.Seq.{getD-set-same, getD-set-other}
-use borrow.Author.Tests.{lt-ltb, le-ltb, ne-eqb, eqb-true, eqb-false}
+use borrow.Author.Tests.{lt-ltb, le-ltb, eqb-true, eqb-false}
 use Rattle.terrain.specs.Bytes.{nth}
 use Rattle.terrain.specs.Corner.{codeOf, corner}
 use Rattle.terrain.specs.Vote.{weightFor, sumFor, greatest, vote}
@@ -58,7 +58,7 @@ kept m s g h =
       tie = g .tie;
     }
 
--- and it is what `greatest` gives, which so depends on f at the numbers 0 to n alone
+-- and it is what `greatest` gives
 pub greatest-is : (f : ℕ → ℕ) (n : ℕ) → Greatest f n (greatest f n)
 unfolding greatest
 greatest-is f zero = at-first f
@@ -68,25 +68,14 @@ greatest-is f (suc n) = go (greatest-is f n) (decLt (f (greatest f n)) (f (suc n
     go g (yes h) = rw (lt-ltb _ _ h) (replaced (suc n) refl g h)
     go g (no h) = let l : f (suc n) ≤ f (greatest f n) = omega arith in rw (le-ltb _ _ l) (kept (suc n) refl g l)
 
-greatest-same : (f g : ℕ → ℕ) (n : ℕ) → ((k : ℕ) → k ≤ n → f k ≡ g k) → greatest f n ≡ greatest g n
-greatest-same f g n e =
-    let q = greatest-is g n in
-    let at = e (greatest g n) (q .within) in
-    greatest-only
-    (greatest-is f n)
-    (record {
-      within = q .within;
-      most = λ k l. omega (arith, e k l, q .most k l);
-      tie = λ k l. omega (arith, e k (omega arith), q .tie k l);
-    })
-
--- so it is of every function with the same values
-pub greatest-by : {f g : ℕ → ℕ} {n best : ℕ} → ((k : ℕ) → f k ≡ g k) → Greatest f n best → Greatest g n best
+-- it is so of every function with the same values at the numbers 0 to n
+pub greatest-by : {f g : ℕ → ℕ} {n best : ℕ} → ((k : ℕ) → k ≤ n → f k ≡ g k) → Greatest f n best → Greatest g n best
 greatest-by {best = best} e h =
+    let at = e best (h .within) in
     record {
       within = h .within;
-      most = λ k l. omega (arith, e k, e best, h .most k l);
-      tie = λ k l. omega (arith, e k, e best, h .tie k l);
+      most = λ k l. omega (arith, e k l, h .most k l);
+      tie = λ k l. omega (arith, e k (omega arith), h .tie k l);
     }
 
 -- The surface code: of the codes 0 to 7, the one with the greatest sum of weights, ties to the smaller code.
@@ -102,7 +91,7 @@ same false = refl
 pub corner-for : (bytes : List ℕ) (code w weight : ℕ) → weightFor code (corner bytes w weight) ≡ cond (eqb (codeOf (nth bytes w)) code) weight 0
 unfolding corner
 corner-for bytes code w zero = same (eqb 0 code) ∙ sym (same (eqb (codeOf (nth bytes w)) code))
-corner-for bytes code w (suc n) = rw (ne-eqb (suc n) 0 λ e. omega arith)
+corner-for bytes code w (suc n) = rw eqb·suc-zero
 
 -- A corner is counted by adding its weight to the sum of its code, in a list with a place for each code: the other sums stay.
 abbrev added : List ℕ → Corner → List ℕ
@@ -154,4 +143,4 @@ one-more {l} c h g e =
 -- so, once the four corners are counted, the greatest sum in the list is the vote
 pub counted-vote : {l : List ℕ} (c : Corners) → Counted l (c .ne ∷ c .nw ∷ c .se ∷ c .sw ∷ []) → greatest (λ code. getD l code 0) 7 ≡ vote c
 unfolding vote sumFor
-counted-vote {l} c g = greatest-same (λ code. getD l code 0) (sumFor c) 7 (λ code h. omega (arith, g .sums code h))
+counted-vote {l} c g = greatest-only (greatest-by (λ code h. omega (arith, g .sums code h)) (greatest-is (λ code. getD l code 0) 7)) (vote-is c)

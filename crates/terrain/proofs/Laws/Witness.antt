@@ -2,14 +2,12 @@
 -- M is 7, and every other byte is 0. Assumes nothing.
 use mathlib.Core.Path.{_≡_, refl, sym, _∙_}
 use mathlib.Core.Logic.{_⊎_, inl, inr}
-use mathlib.Core.Bool.{Bool, true, false}
 use mathlib.Core.List.{List}
 use Prim.Native.Nat.{ℕ, _+_, _-_, _*_, _≤_, _<_}
+use native.Mathlib.Decide.{ℕ-discrete}
 use native.Mathlib.Omega.{arith}
-use lib.Dec.{eqb}
 use lib.ListN.{length, getD, set, replicate, length-set, length-replicate, getD-replicate}
 use lib.Seq.{getD-set-other}
-use borrow.Author.Tests.{eqb-true, eqb-false}
 use Rattle.ground.specs.Outcome.{given}
 use Rattle.ground.specs.Measure.{metres}
 use Rattle.ground.specs.Boundary.{yB, rows, named}
@@ -60,13 +58,6 @@ empty n a b c =
       zero-at (2 * (n - 1) + 1) (omega arith) (λ e. c (omega arith)) (λ e. omega arith),
     )
 
-is-50 : (n : ℕ) → Dec (n ≡ 50)
-is-50 n = go (eqb n 50) refl
-  where
-    go : (t : Bool) → eqb n 50 ≡ t → Dec (n ≡ 50)
-    go true e = yes (eqb-true _ _ e)
-    go false e = no (eqb-false _ _ e)
-
 pub some-passes : Passes file 28
 some-passes =
     record {
@@ -75,8 +66,8 @@ some-passes =
       most = omega (arith, long);
       lowestM = omega (arith, M);
       highestM = omega (arith, M, long);
-      entries = λ n a b. entries n a b (is-50 n);
-      once = λ m n a b c e. once m n a b c e (is-50 n);
+      entries = λ n a b. entries n a b (ℕ-discrete n 50);
+      once = λ m n a b c e. once m n a b c e (ℕ-discrete n 50);
       rest = λ n a b. empty n (omega arith) b (λ e. omega arith);
     }
   where
