@@ -53,12 +53,16 @@ unfoldable pub indexPasses : List ℕ → ℕ → Bool
 indexPasses file rows =
     highestPasses file && (entriesPass file (highest file) (100 * rows) && restEmpty file (100 * rows))
 
--- Document 01's own words: a file of so many rows passes when ..
-pub record Passes (file : List ℕ) (rows : ℕ) : Type 0 where
-  -- .. its length is a multiple of 1024, with 6 to 4096 records;
-  pub whole : length file ≡ 1024 * records file
+-- Document 01's own words: the length is a multiple of 1024, with 6 to 4096 records;
+pub record Whole (file : List ℕ) : Type 0 where
+  pub multiple : length file ≡ 1024 * records file
   pub least : 6 ≤ records file
   pub most : records file ≤ 4096
+
+-- a file of so many rows passes when ..
+pub record Passes (file : List ℕ) (rows : ℕ) : Type 0 where
+  -- .. its length is that;
+  pub whole : Whole file
   -- M is 6 to the record count;
   pub lowestM : 6 ≤ highest file
   pub highestM : highest file ≤ records file

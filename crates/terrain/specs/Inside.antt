@@ -40,6 +40,19 @@ fourPositions file n =
 unfoldable pub checkedOn : List ℕ → Ground → Outcome Terrain
 checkedOn file g = unless (not (indexPasses file (g .rows))) 3 (given (record { ground = g; highest = highest file }))
 
+-- what is so of each of the four corners, and of the word and the weight of each
+pub record Each (P : Corner → Type 0) (c : Corners) : Type 0 where
+  pub sw : P (c .sw)
+  pub se : P (c .se)
+  pub nw : P (c .nw)
+  pub ne : P (c .ne)
+
+pub record AtEach (P : ℕ → ℕ → Type 0) (w : Words) (weights : Weights) : Type 0 where
+  pub sw : P (w .sw) (weights .sw)
+  pub se : P (w .se) (weights .se)
+  pub nw : P (w .nw) (weights .nw)
+  pub ne : P (w .ne) (weights .ne)
+
 -- what a word can say: one of the eight codes, and an elevation below 8192
 pub record Sound (c : Corner) : Type 0 where
   pub code : c .code ≤ 7
@@ -56,18 +69,12 @@ WithinAt bytes w weight = (1 ≤ w) × (0 < weight → 2 * w ≤ length bytes)
 
 -- so it is at the four corners, and the weights add up to 250,000
 pub record Within (bytes : List ℕ) (w : Words) (weights : Weights) : Type 0 where
-  pub sw : WithinAt bytes (w .sw) (weights .sw)
-  pub se : WithinAt bytes (w .se) (weights .se)
-  pub nw : WithinAt bytes (w .nw) (weights .nw)
-  pub ne : WithinAt bytes (w .ne) (weights .ne)
+  pub corners : AtEach (WithinAt bytes) w weights
   pub all : weights .sw + weights .se + (weights .nw + weights .ne) ≡ 250000
 
 -- what is so of corners that were looked at
 pub record Weighed (c : Corners) : Type 0 where
-  pub sw : Sound (c .sw)
-  pub se : Sound (c .se)
-  pub nw : Sound (c .nw)
-  pub ne : Sound (c .ne)
+  pub corners : Each Sound c
   pub all : c .sw .weight + c .se .weight + (c .nw .weight + c .ne .weight) ≡ 250000
 
 -- The place of a point in a checked file: the rectangle has a position or is rectangle 0, the file holds the index and the rectangle's record,

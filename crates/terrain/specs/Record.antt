@@ -52,6 +52,7 @@ takenBytes o = filledBy [] (o andThen λ t. given (t .bytes))
 abbrev pub takenStart : Outcome Taken → ℕ
 takenStart o = filledBy 0 (o andThen λ t. given (t .start))
 
+-- So r is that part of the lent slice, where a slice has its bytes now, and a place that it begins at: a block of memory and an offset in it.
 pub record Part (file : RefT (List ℕ)) (r : RefT (List ℕ)) (o : Outcome Taken) : Type 0 where
   pub bytes : r .now ≡ takenBytes o
   pub block : r .ptr .0 ≡ file .ptr .0

@@ -13,7 +13,7 @@ pub enum EnginePoint {
     Refused(u32),
 }
 
-// An exact height in metres.
+// An exact height, which is in 1/250,000 m, in metres: divided once by 250,000.
 pub fn metres_of(height: u32) -> f64
     ensures { λ r. ⌜ r ≡ metresOf height ⌝ }
 {

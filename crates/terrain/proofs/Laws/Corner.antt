@@ -11,7 +11,7 @@ use lib.Dec.{eqb·suc-zero}
 use borrow.Author.Tests.{eqb-true, eqb-false, eq-eqb, ne-eqb}
 use Rattle.terrain.specs.Bytes.{nth}
 use Rattle.terrain.specs.Corner.{elevationOf, corner, lacksHeight, anyLacksHeight, exactHeight}
-use Rattle.terrain.specs.Inside.{Sound, Weighed}
+use Rattle.terrain.specs.Inside.{Each, Weighed}
 use Rattle.terrain.specs.declared.corner.Corner.{Corner}
 use Rattle.terrain.specs.declared.corner.Corners.{Corners}
 
@@ -34,12 +34,8 @@ module _ (bytes : List ℕ) (w : ℕ) where
   corner-lacks zero = (λ e. absurd (eqb-false 0 8191 refl (eqb-true 0 8191 e)), λ h. absurd (omega arith))
   corner-lacks (suc n) = rw eqb·suc-zero ((λ e. (omega arith, eqb-true _ _ e)), λ h. eq-eqb _ _ (h .1))
 
--- what is so of each of the four
-pub record Each (P : Corner → Type 0) (c : Corners) : Type 0 where
-  pub sw : P (c .sw)
-  pub se : P (c .se)
-  pub nw : P (c .nw)
-  pub ne : P (c .ne)
+each : {P Q : Corner → Type 0} {c : Corners} → ((k : Corner) → P k → Q k) → Each P c → Each Q c
+each f a = record { sw = f _ (a .sw); se = f _ (a .se); nw = f _ (a .nw); ne = f _ (a .ne) }
 
 -- No corner lacks a height just where none says 8191.
 abbrev pub HasHeight : Corner → Type 0
@@ -100,5 +96,4 @@ height-within lo hi c all h =
 -- An elevation is at most 8191, so the exact height fits a u32.
 pub height-fits : (c : Corners) → Weighed c → exactHeight c ≤ 2047750000
 height-fits c w =
-    let one : (k : Corner) → Sound k → Between 0 8191 k = λ k s p. omega arith in
-    height-within 0 8191 c (w .all) (record { sw = one _ (w .sw); se = one _ (w .se); nw = one _ (w .nw); ne = one _ (w .ne) }) .most
+    height-within 0 8191 c (w .all) (each (λ k s p. omega arith) (w .corners)) .most

@@ -4,7 +4,7 @@ use mathlib.Core.Path.{_≡_, refl, sym, _∙_}
 use mathlib.Core.Bool.{Bool, true, false, not, _&&_, and-true, and-false, and-eq-true-iff}
 use mathlib.Core.Logic.{⊎-elim}
 use mathlib.Core.List.{List}
-use Prim.Native.Nat.{ℕ, _+_, _*_, _%_, _≤_, _<_}
+use Prim.Native.Nat.{ℕ, _+_, _%_, _≤_, _<_}
 use native.Mathlib.Nat.{eq-or-lt-of-le}
 use native.Mathlib.Omega.{arith}
 use lib.Dec.{leb, eqb}
@@ -13,23 +13,18 @@ use lib.Seq.{getD-set-same, getD-set-other}
 use borrow.Author.Count.{below-more}
 use borrow.Author.Tests.{le-leb, lt-leb, eq-eqb, ne-eqb, eqb-true, eqb-false, leb-true, not-true, not-false}
 use Rattle.terrain.specs.Bytes.{records}
-use Rattle.terrain.specs.Index.{position, wholeRecords, fresh, entryPasses, entriesPass, restEmpty}
+use Rattle.terrain.specs.Index.{position, wholeRecords, Whole, fresh, entryPasses, entriesPass, restEmpty}
 use Rattle.terrain.specs.Inside.{Skipped, NextEntry}
 use Rattle.terrain.proofs.Laws.Every.{next, skip, none, holds, fails-at}
 
 -- a length of whole records
-pub record Whole (file : List ℕ) : Type 0 where
-  pub whole : length file ≡ 1024 * records file
-  pub least : 6 ≤ records file
-  pub most : records file ≤ 4096
-
 pub whole-is : (file : List ℕ) → wholeRecords file ≡ true → Whole file
 unfolding wholeRecords
 whole-is file h =
     let t = and-eq-true-iff (eqb (length file % 1024) 0) (leb 6 (records file) && leb (records file) 4096) .0 h in
     let r = and-eq-true-iff (leb 6 (records file)) (leb (records file) 4096) .0 (t .1) in
     let even = eqb-true (length file % 1024) 0 (t .0) in
-    record { whole = omega arith; least = leb-true _ _ (r .0); most = leb-true _ _ (r .1) }
+    record { multiple = omega arith; least = leb-true _ _ (r .0); most = leb-true _ _ (r .1) }
 
 -- one empty position more
 pub skip-one : (file : List ℕ) (from end n m : ℕ) → Skipped file from end n → n < end → position file n ≡ 0 → m ≡ n + 1 → Skipped file from end m

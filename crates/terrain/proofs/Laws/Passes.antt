@@ -62,13 +62,10 @@ passing file rows w h =
     let t = and-eq-true-iff (highestPasses file) (entriesPass file M (100 * rows) && restEmpty file (100 * rows)) .0 h in
     let s = and-eq-true-iff (entriesPass file M (100 * rows)) (restEmpty file (100 * rows)) .0 (t .1) in
     let m = highest-is file (t .0) in
-    let l = whole-is file w in
     let at : (n : ℕ) → 1 ≤ n → n < 100 * rows → (position file n ≡ 0) ⊎ Entry file M n =
     λ n a b. entry-is file M n (holds-at (entryPasses file M) 1 (100 * rows) (s .0) n a b) in
     record {
-      whole = l .whole;
-      least = l .least;
-      most = l .most;
+      whole = whole-is file w;
       lowestM = m .0;
       highestM = m .1;
       entries = λ n a b. ⊎-elim inl (λ e. inr (e .least, e .most)) (at n a b);
@@ -81,7 +78,7 @@ unfolding wholeRecords highestPasses indexPasses entriesPass restEmpty
 passes-is file rows = (
   (λ h. passing file rows (h .0) (h .1)),
   λ p. (
-    simp (eq-eqb (length file % 1024) 0 (omega arith), le-leb _ _ (p .least), le-leb _ _ (p .most)),
+    simp (eq-eqb (length file % 1024) 0 (omega arith), le-leb _ _ (p .whole .least), le-leb _ _ (p .whole .most)),
     simp (
       le-leb _ _ (p .lowestM),
       le-leb _ _ (p .highestM),

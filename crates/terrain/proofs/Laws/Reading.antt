@@ -26,23 +26,16 @@ use Rattle.terrain.specs.Record.{entry, covered, Taken, taken, recordIn,
 use Rattle.terrain.specs.Corner.{codeOf, elevationOf, corner, cornersAt, anyLacksHeight, exactHeight}
 use Rattle.terrain.specs.Vote.{sumFor, vote}
 use Rattle.terrain.specs.Reading.{readCorners, readTaken, pointIn, reading}
-use Rattle.terrain.specs.Inside.{readAt}
+use Rattle.terrain.specs.Inside.{Each, AtEach, readAt}
 use Rattle.terrain.specs.declared.check.Terrain.{Terrain}
 use Rattle.terrain.specs.declared.corner.Corner.{Corner}
 use Rattle.terrain.specs.declared.corner.Corners.{Corners}
 use Rattle.terrain.specs.declared.reading.Reading.{Reading}
-use Rattle.terrain.proofs.Laws.Corner.{corner-weight, corner-lacks, corner-part, Each, lacks-none, corner-between, HeightWithin, height-within}
+use Rattle.terrain.proofs.Laws.Corner.{corner-weight, corner-lacks, corner-part, lacks-none, corner-between, HeightWithin, height-within}
 use Rattle.terrain.proofs.Laws.Checked.{checked-is, record-past, record-in, record-long, own}
 use Rattle.terrain.proofs.Laws.Vote.{Greatest, greatest-by, corner-for, vote-is}
 
--- What is so at each corner, of its word and its weight.
-pub record AtEach (P : ℕ → ℕ → Type 0) (w : Words) (weights : Weights) : Type 0 where
-  pub sw : P (w .sw) (weights .sw)
-  pub se : P (w .se) (weights .se)
-  pub nw : P (w .nw) (weights .nw)
-  pub ne : P (w .ne) (weights .ne)
-
--- if it weighs in, it has a height; if it weighs in, it lies between these elevations
+-- What is so of a corner's word and weight: if it weighs in, it has a height; if it weighs in, it lies between these elevations.
 abbrev pub HasHeightAt : List ℕ → ℕ → ℕ → Type 0
 HasHeightAt bytes w weight = 0 < weight → elevationOf (nth bytes w) ≡ 8191 → ⊥
 

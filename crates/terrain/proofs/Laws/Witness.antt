@@ -62,8 +62,6 @@ pub some-passes : Passes file 28
 some-passes =
     record {
       whole = omega (arith, long);
-      least = omega (arith, long);
-      most = omega (arith, long);
       lowestM = omega (arith, M);
       highestM = omega (arith, M, long);
       entries = λ n a b. entries n a b (ℕ-discrete n 50);

@@ -5,16 +5,16 @@ use Rattle.terrain.proofs.corner.corners_at.Statement.{statement}
 use Rattle.terrain.proofs.corner.corners_at.Tie as tie
 
 corner-at-requires : tie.Need-corner-at-requires
-corner-at-requires c κs = c .before .pre .sw
+corner-at-requires c κs = c .before .pre .corners .sw
 
 corner-at-requires-2 : tie.Need-corner-at-requires-2
-corner-at-requires-2 c κs = c .before .before .pre .se
+corner-at-requires-2 c κs = c .before .before .pre .corners .se
 
 corner-at-requires-3 : tie.Need-corner-at-requires-3
-corner-at-requires-3 c κs = c .before .before .before .pre .nw
+corner-at-requires-3 c κs = c .before .before .before .pre .corners .nw
 
 corner-at-requires-4 : tie.Need-corner-at-requires-4
-corner-at-requires-4 c κs = c .before .before .before .before .pre .ne
+corner-at-requires-4 c κs = c .before .before .before .before .pre .corners .ne
 
 returns : tie.Need-returns
 unfolding cornersAt
@@ -26,10 +26,7 @@ returns c =
     let ne = c .corner-at4 .ensures in (
       rw (sw .is, se .is, nw .is, ne .is),
       record {
-        sw = sw .sound;
-        se = se .sound;
-        nw = nw .sound;
-        ne = ne .sound;
+        corners = record { sw = sw .sound; se = se .sound; nw = nw .sound; ne = ne .sound };
         all = rw (sw .is, se .is, nw .is, ne .is) (simp corner-weight (start .pre .all));
       },
     )

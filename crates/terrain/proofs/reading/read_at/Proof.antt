@@ -48,7 +48,7 @@ corners-at-requires c κs =
     let p = past .before .before .before .pre in
     let long = record-long _ _ (p .recorded) (is-covered past) in
     rw (bytes past, c .words .ensures)
-    (record { sw = omega arith; se = omega arith; nw = omega arith; ne = omega arith; all = p .all })
+    (record { corners = omega arith; all = p .all })
 
 read-corners-requires : tie.Need-read-corners-requires
 read-corners-requires c κs = search needs

@@ -9,29 +9,29 @@ use Rattle.terrain.proofs.vote.vote.Statement.{statement}
 use Rattle.terrain.proofs.vote.vote.Tie as tie
 
 one : (c : tie.After-count) → Counted (c .count .last .0) (c .before .before .args .corners .sw ∷ [])
-one c = one-more _ (c .before .before .pre .sw .code) none-counted (c .count .ensures)
+one c = one-more _ (c .before .before .pre .corners .sw .code) none-counted (c .count .ensures)
 
 two : (c : tie.After-count2) →
     let k = c .before .before .before .before .args .corners in
     Counted (c .count2 .last .0) (k .se ∷ k .sw ∷ [])
-two c = one-more _ (c .before .before .before .before .pre .se .code) (one (c .before .before)) (c .count2 .ensures)
+two c = one-more _ (c .before .before .before .before .pre .corners .se .code) (one (c .before .before)) (c .count2 .ensures)
 
 three : (c : tie.After-count3) →
     let k = c .before .before .before .before .before .before .args .corners in
     Counted (c .count3 .last .0) (k .nw ∷ k .se ∷ k .sw ∷ [])
-three c = one-more _ (c .before .before .before .before .before .before .pre .nw .code) (two (c .before .before)) (c .count3 .ensures)
+three c = one-more _ (c .before .before .before .before .before .before .pre .corners .nw .code) (two (c .before .before)) (c .count3 .ensures)
 
 count-requires : tie.Need-count-requires
-count-requires c κs = omega (arith, none-counted .most _ (c .before .pre .sw .code))
+count-requires c κs = omega (arith, none-counted .most _ (c .before .pre .corners .sw .code))
 
 count-requires-2 : tie.Need-count-requires-2
-count-requires-2 c κs = omega (arith, one (c .before) .most _ (c .before .before .before .pre .se .code))
+count-requires-2 c κs = omega (arith, one (c .before) .most _ (c .before .before .before .pre .corners .se .code))
 
 count-requires-3 : tie.Need-count-requires-3
-count-requires-3 c κs = omega (arith, two (c .before) .most _ (c .before .before .before .before .before .pre .nw .code))
+count-requires-3 c κs = omega (arith, two (c .before) .most _ (c .before .before .before .before .before .pre .corners .nw .code))
 
 count-requires-4 : tie.Need-count-requires-4
-count-requires-4 c κs = omega (arith, three (c .before) .most _ (c .before .before .before .before .before .before .before .pre .ne .code))
+count-requires-4 c κs = omega (arith, three (c .before) .most _ (c .before .before .before .before .before .before .before .pre .corners .ne .code))
 
 greatest-of-requires : tie.Need-greatest-of-requires
 greatest-of-requires c κs = search needs
@@ -40,7 +40,7 @@ returns : tie.Need-returns
 returns c =
     let counted = c .before .before in
     let start = counted .before .before .before .before .before .before .before .before in
-    let four = one-more (start .args .corners .ne) (start .pre .ne .code) (three (counted .before .before)) (counted .count4 .ensures) in
+    let four = one-more (start .args .corners .ne) (start .pre .corners .ne .code) (three (counted .before .before)) (counted .count4 .ensures) in
     c .greatest-of .ensures ∙ counted-vote (start .args .corners) four
 
 pub vote-spec : {M : Type 1} → statement M
