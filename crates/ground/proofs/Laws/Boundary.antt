@@ -39,6 +39,10 @@ steep {a} {b} h = omega (arith, mul-le-mul {n₁ = 246 + a} {m₁ = a} {n₂ = 2
 pub rising : {a b : ℕ} → a < b → yB a .0 < yB b .0
 rising h = omega (arith, steep (le-of-lt h))
 
+-- no file ends north of the last one
+pub north-most : (b : ℕ) → b ≤ 80 → yB (b + 4) .0 ≤ 18662
+north-most b h = omega (arith, last, steep {a = b + 4} {b = 84} (omega arith))
+
 -- the northern boundary is as many rows of 31 units up
 pub rows-high : (b : ℕ) → yB (b + 4) .0 ≡ yB b .0 + 31 * rows b
 unfolding yB rows

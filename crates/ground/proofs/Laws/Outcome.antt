@@ -7,7 +7,7 @@ use native.Mathlib.Omega.{arith}
 use Rattle.ground.specs.Outcome.{Outcome, given, refused, unless, _andThen_}
 
 -- a refusal is no answer
-not-both : {A : Type 0} {number place : ℕ} {a : A} → refused number place ≡ given a → ⊥
+pub not-both : {A : Type 0} {number place : ℕ} {a : A} → refused number place ≡ given a → ⊥
 not-both e = let z : _≡_ {A = ℕ} 0 1 = cc in omega arith
 
 -- past a test

@@ -2,13 +2,14 @@
 -- those that weigh in. From the definitions alone. Assumes nothing.
 use mathlib.Core.Path.{_≡_, refl, sym, ap}
 use mathlib.Core.Logic.{_↔_}
-use mathlib.Core.Bool.{Bool, true, false, _||_}
+use mathlib.Core.Bool.{true, false, _||_}
 use mathlib.Core.List.{List}
 use Prim.Native.Nat.{ℕ, zero, suc, _+_, _*_, _≤_, _<_}
 use native.Mathlib.Nat.{zero-mul, add-mul, mul-le-mul-left}
 use native.Mathlib.Omega.{arith}
 use lib.Dec.{eqb·suc-zero}
 use borrow.Author.Tests.{eqb-true, eqb-false, eq-eqb, ne-eqb}
+use Rattle.ground.proofs.Laws.Test.{neither}
 use Rattle.terrain.specs.Bytes.{nth}
 use Rattle.terrain.specs.Corner.{elevationOf, corner, lacksHeight, anyLacksHeight, exactHeight}
 use Rattle.terrain.specs.Inside.{Each, Weighed}
@@ -40,10 +41,6 @@ each f a = record { sw = f _ (a .sw); se = f _ (a .se); nw = f _ (a .nw); ne = f
 -- No corner lacks a height just where none says 8191.
 abbrev pub HasHeight : Corner → Type 0
 HasHeight k = k .elevation ≡ 8191 → ⊥
-
-neither : (a b : Bool) → (a || b) ≡ false → (a ≡ false) × (b ≡ false)
-neither false b e = (refl, e)
-neither true b e = (e, (cc))
 
 pub lacks-none : (c : Corners) → (anyLacksHeight c ≡ false) ↔ Each HasHeight c
 unfolding anyLacksHeight

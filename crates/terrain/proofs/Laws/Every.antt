@@ -65,3 +65,13 @@ module _ (test : ℕ → Bool) (first : ℕ) where
 
   pub fails-at : (n k : ℕ) → first ≤ k → k < n → test k ≡ false → every test first n ≡ false
   fails-at n k l h e = not-eq-not {b = false} .0 λ q. true≢false (sym (holds-at n q k l h) ∙ e)
+
+-- two tests that agree at each number of the range
+pub agree : (f g : ℕ → Bool) (first n : ℕ) → ((k : ℕ) → first ≤ k → k < n → f k ≡ g k) → every f first n ≡ every g first n
+unfolding every
+agree f g first zero t = refl
+agree f g first (suc n) t = rw (agree f g first n λ k l h. t k l (omega arith), at-end (decLe first n))
+  where
+    at-end : Dec (first ≤ n) → (ltb n first || f n) ≡ (ltb n first || g n)
+    at-end (yes l) = rw (t n l (omega arith))
+    at-end (no h) = simp (lt-ltb n first (lt-of-not-le h))

@@ -1,0 +1,87 @@
+-- `blocked_at` meets its contract. The loop's invariant: the samples passed are clear. Assumes nothing.
+use Prim.Native.Nat.{_-_}
+use native.Mathlib.Omega.{arith}
+use lib.ListN.{getD}
+use Rattle.link.proofs.Laws.Clear.{ClearTo, clear-none, clear-more}
+use Rattle.link.proofs.Laws.Masts.{blocks-at, blocks-none, both-below}
+use Rattle.link.proofs.plan.blocked_at.Statement.{statement}
+use Rattle.link.proofs.plan.blocked_at.Tie as tie
+
+abbrev Inv-loop : tie.InvT-loop
+Inv-loop n first last needs tried i₀ i = ClearTo (λ k. getD needs k 0) n first last i
+
+abbrev μ-loop : tie.MeasureT-loop
+μ-loop n first last needs tried i₀ i = n - i
+
+line-requires : tie.Need-line-requires Inv-loop μ-loop
+line-requires c κs = (record { some = omega arith; most = omega arith; within = omega arith }, (omega arith, omega arith))
+
+mul-if1 : tie.Need-mul-if1 Inv-loop μ-loop
+mul-if1 c = omega arith
+
+element-copy-out-if1 : tie.Need-element-copy-out-if1 Inv-loop μ-loop
+element-copy-out-if1 c = omega arith
+
+returns : tie.Need-returns Inv-loop μ-loop
+returns c =
+    let a = c .before .before .before .args in
+    let need = getD (a .needs .now) (a .tried) 0 in
+    let low = both-below 0 (a .tried) (c .before .before .line .result) need (c .if1 .taken) in
+    blocks-at (λ k. getD (a .needs .now) k 0) (a .n) (a .first) (a .last) (a .tried) (omega arith) (omega arith) (omega arith)
+
+loop-holds : tie.Need-loop-holds Inv-loop μ-loop
+loop-holds c = clear-none _ _ _ _ (omega arith)
+
+line-requires-2 : tie.Need-line-requires-2 Inv-loop μ-loop
+line-requires-2 c κs = (record { some = omega arith; most = omega arith; within = omega arith }, (omega arith, omega arith))
+
+cast-if2 : tie.Need-cast-if2 Inv-loop μ-loop
+cast-if2 c = omega arith
+
+mul-if2 : tie.Need-mul-if2 Inv-loop μ-loop
+mul-if2 c = omega arith
+
+element-copy-out-if2 : tie.Need-element-copy-out-if2 Inv-loop μ-loop
+element-copy-out-if2 c = omega arith
+
+returns-2 : tie.Need-returns-2 Inv-loop μ-loop
+returns-2 c =
+    let at = c .before .before .before .before in
+    let a = at .before .before .before .before .args in
+    blocks-at (λ k. getD (a .needs .now) k 0) (a .n) (a .first) (a .last) (at .loop .i) (omega arith) (omega arith) (omega arith)
+
+add-i : tie.Need-add-i Inv-loop μ-loop
+add-i c = omega arith
+
+loop-less : tie.Need-loop-less Inv-loop μ-loop
+loop-less c = omega arith
+
+loop-again : tie.Need-loop-again Inv-loop μ-loop
+loop-again c =
+    let at = c .before .before .before .before in
+    let a = at .before .before .before .before .args in
+    clear-more (λ k. getD (a .needs .now) k 0) (a .n) (a .first) (a .last) (at .loop .i) (at .loop .inv) (omega arith) (omega arith)
+
+returns-3 : tie.Need-returns-3 Inv-loop μ-loop
+returns-3 c = blocks-none (c .before .loop .inv) (omega arith)
+
+pub blocked-at-spec : {M : Type 1} → statement M
+blocked-at-spec =
+    tie.close
+    (tie.spec
+    Inv-loop
+    μ-loop
+    line-requires
+    mul-if1
+    element-copy-out-if1
+    returns
+    loop-holds
+    line-requires-2
+    cast-if2
+    mul-if2
+    element-copy-out-if2
+    returns-2
+    add-i
+    loop-less
+    loop-again
+    returns-3)

@@ -1,0 +1,140 @@
+-- `search` meets its contract. The loop's invariant: the first masts below `a` have been tried. Assumes nothing.
+use mathlib.Core.Path.{_≡_, refl}
+use mathlib.Core.Logic.{⊎-elim}
+use Prim.Native.Nat.{_+_, _-_, _*_, min, _≤_, _<_}
+use native.Mathlib.Omega.{arith}
+use lib.ListN.{getD}
+use Rattle.link.specs.Clear.{clearBy}
+use Rattle.link.specs.Inside.{Sides}
+use Rattle.link.proofs.Laws.Masts.{Tried, none-found, none-clears, found, passed, best, no-pair, both-hold, one-fails}
+use Rattle.link.proofs.plan.search.Statement.{statement}
+use Rattle.link.proofs.plan.search.Tie as tie
+
+abbrev Inv-loop : tie.InvT-loop
+Inv-loop n first last needs la lb sum₀ mast₀ tried₀ a₀ sum mast tried a = (tried < n) × Tried (λ x y. clearBy (λ k. getD needs k 0) n (first + 1000 * x) (last + 1000 * y)) la lb sum mast a
+
+abbrev μ-loop : tie.MeasureT-loop
+μ-loop n first last needs la lb sum₀ mast₀ tried₀ a₀ sum mast tried a = la + 1 - a
+
+add-sum : tie.Need-add-sum Inv-loop μ-loop
+add-sum c = omega arith
+
+add-sum-2 : tie.Need-add-sum-2 Inv-loop μ-loop
+add-sum-2 c = omega arith
+
+loop-holds : tie.Need-loop-holds Inv-loop μ-loop
+loop-holds c = (omega arith, none-found)
+
+-- a first mast that is tried is within its limit and below the sum, ..
+within : (c : tie.In-loop Inv-loop μ-loop) → (
+    let w = c .before in
+    (w .loop .a ≤ w .before .args .la) × (w .loop .a < w .loop .sum)
+    )
+within c = let w = c .before in both-hold (w .loop .a) (w .before .args .la) (w .loop .sum) (c .loop-test .taken)
+
+-- .. with the second mast within its limit, and no more than makes the sum smaller
+room : (c : tie.Joined1 Inv-loop μ-loop) → (
+    let w = c .before .before in
+    c .if1 .most ≡ min (w .before .args .lb) (w .loop .sum - 1 - w .loop .a)
+    )
+room c = ⊎-elim (λ w. omega arith) (λ w. omega arith) (c .if1 .came)
+
+sub-room : tie.Need-sub-room Inv-loop μ-loop
+sub-room c = omega (arith, within c)
+
+sub-room-2 : tie.Need-sub-room-2 Inv-loop μ-loop
+sub-room-2 c = omega (arith, within c)
+
+mul-raised : tie.Need-mul-raised Inv-loop μ-loop
+mul-raised c = omega (arith, within (c .before))
+
+add-raised : tie.Need-add-raised Inv-loop μ-loop
+add-raised c = omega (arith, within (c .before))
+
+mul-blocked-at : tie.Need-mul-blocked-at Inv-loop μ-loop
+mul-blocked-at c = omega (arith, room (c .before))
+
+add-blocked-at : tie.Need-add-blocked-at Inv-loop μ-loop
+add-blocked-at c = omega (arith, room (c .before))
+
+sides : (c : tie.Joined1 Inv-loop μ-loop) → (
+    let w = c .before .before in
+    let a = w .before .args in
+    Sides (a .n) (a .first + 1000 * w .loop .a) (a .last + 1000 * c .if1 .most) (a .needs .now)
+    )
+sides c =
+    let s = c .before .before .before .pre .0 in
+    record { some = s .some; most = s .most; first = omega (arith, within (c .before)); last = omega (arith, room c); needs = s .needs }
+
+blocked-at-requires : tie.Need-blocked-at-requires Inv-loop μ-loop
+blocked-at-requires c κs = (sides (c .before), c .before .before .before .loop .inv .0)
+
+least-second-requires : tie.Need-least-second-requires Inv-loop μ-loop
+least-second-requires c κs = let at = c .before .before .before in (sides at, omega (arith, room at))
+
+add-sum-3 : tie.Need-add-sum-3 Inv-loop μ-loop
+add-sum-3 c =
+    let at = c .before .before .before .before in
+    omega (arith, within (at .before), room at, c .least-second .ensures .most)
+
+add-a : tie.Need-add-a Inv-loop μ-loop
+add-a c = omega (arith, within (c .before .before .before .before))
+
+loop-less : tie.Need-loop-less Inv-loop μ-loop
+loop-less c = omega (arith, within (c .before .before .before .before))
+
+loop-again : tie.Need-loop-again Inv-loop μ-loop
+loop-again c =
+    let at = c .before .before .before in
+    let w = at .before .before in
+    let so-far = w .loop .inv .1 in
+    let blocks = c .before .blocked-at .ensures in
+    ⊎-elim
+    (λ v. rw (v .1, v .2, v .3) (omega arith, passed so-far (room at) (none-clears (w .before .args .last) (at .if1 .most) blocks (omega arith))))
+    (λ v. rw (v .2, v .3, v .4) (
+      omega arith,
+      found so-far (within (at .before) .0) (within (at .before) .1) (room at) (v .1 .ensures) (blocks .clear (omega arith)),
+    ))
+    (c .if2 .came)
+
+-- after the loop every first mast within its limit is tried, or would by itself come to the sum
+all-tried : (c : tie.After-loop Inv-loop μ-loop) → (let w = c .before in w .loop .a ≤ w .before .args .la → w .loop .sum ≤ w .loop .a)
+all-tried c = let w = c .before in one-fails (w .loop .a) (w .before .args .la) (w .loop .sum) (c .loop-test .left)
+
+add-if3 : tie.Need-add-if3 Inv-loop μ-loop
+add-if3 c = omega arith
+
+returns : tie.Need-returns Inv-loop μ-loop
+returns c = ((refl, refl), no-pair (c .before .before .loop .inv .1) (all-tried (c .before)) (omega arith))
+
+sub-t15 : tie.Need-sub-t15 Inv-loop μ-loop
+sub-t15 c = omega arith
+
+returns-2 : tie.Need-returns-2 Inv-loop μ-loop
+returns-2 c = best (c .before .before .loop .inv .1) (all-tried (c .before)) (omega arith)
+
+pub search-spec : {M : Type 1} → statement M
+search-spec =
+    tie.close
+    (tie.spec
+    Inv-loop
+    μ-loop
+    add-sum
+    add-sum-2
+    loop-holds
+    sub-room
+    sub-room-2
+    mul-raised
+    add-raised
+    mul-blocked-at
+    add-blocked-at
+    blocked-at-requires
+    least-second-requires
+    add-sum-3
+    add-a
+    loop-less
+    loop-again
+    add-if3
+    returns
+    sub-t15
+    returns-2)

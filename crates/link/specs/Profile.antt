@@ -1,0 +1,90 @@
+-- The profile of a path. Document 01, "A path" and "The numbers we say no with". Assumes nothing.
+use Prim.Native.Nat.{ℕ, zero, suc, _+_}
+use mathlib.Core.List.{List}
+use lib.ListN.{getD, set, replicate}
+use Rattle.ground.specs.Outcome.{Outcome, given, refused, _andThen_, refusalNumber, refusalPlace, filledBy}
+use Rattle.ground.specs.declared.point.Point.{Point}
+use Rattle.terrain.specs.Check.{checked}
+use Rattle.terrain.specs.Reading.{pointIn}
+use Rattle.terrain.specs.declared.check.Terrain.{Terrain}
+use Rattle.terrain.specs.declared.reading.Reading.{Reading}
+use Rattle.link.specs.Path.{sample, pathOn}
+use Rattle.link.specs.declared.path.Path.{Path}
+use Rattle.link.specs.declared.path.Asked.{Asked}
+use Rattle.link.specs.declared.profile.Walked.{Walked}
+use Rattle.link.specs.declared.profile.Walked.the-variants as walked
+use Rattle.link.specs.declared.profile.ProfileAnswer.{ProfileAnswer}
+
+-- one value with room for 201 samples, exact height and code each, beside N
+pub record Profile : Type 0 where
+  pub n : ℕ
+  pub heights : List ℕ
+  pub codes : List ℕ
+
+-- unused places are 0
+unfoldable pub zeros : List ℕ
+zeros = replicate 201 0
+
+abbrev pub unused : ℕ → Profile
+unused n = record { n = n; heights = zeros; codes = zeros }
+
+-- the profile with a reading put in at sample i, and what it holds there
+abbrev pub put : Profile → ℕ → Reading → Profile
+put p i r = record { n = p .n; heights = set (p .heights) i (r .height); codes = set (p .codes) i (r .code) }
+
+abbrev pub sampleOf : Profile → ℕ → Reading
+sampleOf p i = record { height = getD (p .heights) i 0; code = getD (p .codes) i 0 }
+
+-- the place of a refusal met at a sample is the sample's number
+abbrev pub atSample : {A : Type 0} → ℕ → Outcome A → Outcome A
+atSample i (given a) = given a
+atSample i (refused number place) = refused number i
+
+-- The samples from 0 upward, k of them, each read by this reader and put in, until one is refused.
+unfoldable pub upTo : (ℕ → Outcome Reading) → ℕ → ℕ → Outcome Profile
+upTo read n zero = given (unused n)
+upTo read n (suc i) = upTo read n i andThen λ p. atSample i (read i) andThen λ r. given (put p i r)
+
+-- the profile of samples 0 to N, whoever reads them
+abbrev pub profileBy : (ℕ → Outcome Reading) → ℕ → Outcome Profile
+profileBy read n = upTo read n (n + 1)
+
+-- a path with its profile: what the calls on a link speak of
+pub record Link : Type 0 where
+  pub path : Path
+  pub profile : Profile
+
+-- The samples of a path in a checked file are read as any point of it, each tried for 4, 5, 6 in that order.
+unfoldable pub linkIn : List ℕ → Terrain → Path → Outcome Link
+linkIn file t w = profileBy (λ i. pointIn file t (sample w i)) (w .n) andThen λ p. given (record { path = w; profile = p })
+
+-- The order of checks of every call on a path: 1, 2, 3 for the file, 4, 4, 7, 8 for the path and what is asked of it, then the samples.
+unfoldable pub linked : List ℕ → ℕ → ℕ → Asked → Outcome Link
+linked file base zone asked = checked file base zone andThen λ t. pathOn (t .ground) asked andThen linkIn file t
+
+-- what each case of the answer means, beside the heights and codes that were read
+abbrev pub linkOf : Path → List ℕ → List ℕ → Link
+linkOf w heights codes = record { path = w; profile = record { n = w .n; heights = heights; codes = codes } }
+
+abbrev pub linkMeans : Walked → List ℕ → List ℕ → Outcome Link
+linkMeans (walked.Whole w) heights codes = given (linkOf w heights codes)
+linkMeans (walked.Refused number place) heights codes = refused number place
+
+-- a profile asks for no mast and no sample, so 8 has no place in it
+abbrev pub ofPath : Point → Point → Asked
+ofPath first second = record { first = first; second = second; a = 0; b = 0; i = 0 }
+
+unfoldable pub profile : List ℕ → ℕ → ℕ → Point → Point → Outcome Profile
+profile file base zone first second = linked file base zone (ofPath first second) andThen λ l. given (l .profile)
+
+-- the answer as the caller gets it
+abbrev pub profileAnswer : Outcome Profile → ProfileAnswer
+profileAnswer o =
+    let p : Profile = filledBy (unused 0) o in
+    record {
+      refusal = refusalNumber o;
+      place = refusalPlace o;
+      n = p .n;
+      heights = p .heights;
+      codes = p .codes;
+    }

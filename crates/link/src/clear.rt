@@ -1,0 +1,135 @@
+// The clear test of a path with its profile, in millimetres, and the verdict.
+ghost use mathlib.Core.Path.{_≡_};
+ghost use Prim.Native.Nat.{_+_, _≤_};
+ghost use lib.ListN.{getD};
+ghost use Rattle.link.specs.Profile.{linkOf};
+ghost use Rattle.link.specs.Clear.{roundedUp, raised, T, G, need, clear, verdict, verdictAnswer};
+ghost use Rattle.link.specs.Inside.{Sound, SoundLink};
+use crate::path;
+use crate::path::Asked;
+use crate::path::Path;
+use crate::path::ROOM;
+use crate::profile;
+use crate::profile::Walked;
+use ground::point::Point;
+use terrain::reading::Reading;
+
+// An exact height, which is in 1/250,000 m, has so many to a millimetre.
+const IN_A_MILLIMETRE: u32 = 250;
+
+// Millimetres in a metre of mast.
+pub(crate) const IN_A_METRE: u32 = 1000;
+
+// Twice the effective radius of 8,500 km, in km: square metres of Q to a millimetre of G.
+const RADII: u64 = 17000;
+
+// The verdict: clear 1, blocked 0; or a refusal.
+#[repr(C)]
+pub struct VerdictAnswer {
+    pub refusal: u32,
+    pub place: u32,
+    pub clear: u32,
+}
+
+// The quotient rounded up.
+pub(crate) fn rounded_up(m: u32, d: u32) -> u32
+    requires { ⌜ (1 ≤ d) × (m + d ≤ 4294967295) ⌝ }
+    ensures { λ r. ⌜ r ≡ roundedUp m d ⌝ }
+{
+    (m + (d - 1)) / d
+}
+
+// What was read at a sample.
+pub(crate) fn sample_of(heights: &[u32; ROOM], codes: &[u8; ROOM], i: u32) -> Reading
+    requires { ⌜ (i ≤ 200) × (getD (now codes) i 0 ≤ 7) ⌝ }
+    ensures { λ r. ⌜ r ≡ record { height = getD (now (heights .entry)) i 0; code = getD (now (codes .entry)) i 0 } ⌝ }
+{
+    Reading {
+        height: heights[i as usize],
+        code: codes[i as usize] as u32,
+    }
+}
+
+// A or B: the end's height rounded down, and its mast.
+pub(crate) fn raised(end: Reading, mast: u32) -> u32
+    requires { ⌜ mast ≤ 100 ⌝ }
+    ensures { λ r. ⌜ r ≡ raised end mast ⌝ }
+{
+    end.height / IN_A_MILLIMETRE + IN_A_METRE * mast
+}
+
+// T: the sample's height rounded up.
+fn top(sample: Reading) -> u32
+    requires { ⌜ sample .height ≤ 2047500000 ⌝ }
+    ensures { λ r. ⌜ r ≡ T sample ⌝ }
+{
+    rounded_up(sample.height, IN_A_MILLIMETRE)
+}
+
+// G: Q i (N-i) / (17,000 N²) rounded up.
+fn curve(path: Path, i: u32) -> u32
+    requires { ⌜ Sound path × (i ≤ path .n) ⌝ }
+    ensures { λ r. ⌜ r ≡ G path i ⌝ }
+{
+    let over = RADII * (path.n * path.n) as u64;
+    ((path.q * i as u64 * (path.n - i) as u64 + (over - 1)) / over) as u32
+}
+
+// What sample i needs: N (T + G).
+pub(crate) fn need(path: Path, heights: &[u32; ROOM], codes: &[u8; ROOM], i: u32) -> u32
+    requires { ⌜ SoundLink (linkOf path (now heights) (now codes)) × (i ≤ path .n) ⌝ }
+    ensures { λ r. ⌜ r ≡ need (linkOf path (now (heights .entry)) (now (codes .entry))) i ⌝ }
+{
+    path.n * (top(sample_of(heights, codes, i)) + curve(path, i))
+}
+
+// Whether the path is clear with masts a and b.
+fn is_clear(path: Path, heights: &[u32; ROOM], codes: &[u8; ROOM], a: u32, b: u32) -> bool
+    requires { ⌜ SoundLink (linkOf path (now heights) (now codes)) × ((a ≤ 100) × (b ≤ 100)) ⌝ }
+    ensures { λ r. ⌜ r ≡ clear (linkOf path (now (heights .entry)) (now (codes .entry))) a b ⌝ }
+{
+    let first = raised(sample_of(heights, codes, 0), a);
+    let last = raised(sample_of(heights, codes, path.n), b);
+    for i in 1..path.n {
+        if path::line(path.n, first, last, i) < need(path, heights, codes, i) {
+            return false;
+        }
+    }
+    true
+}
+
+// Whether the path between two points of a file is clear with masts of a and b metres, or refusal 1
+// to 8.
+pub fn verdict(
+    file: &[u8],
+    base: u32,
+    zone: u32,
+    first: Point,
+    second: Point,
+    a: u32,
+    b: u32,
+) -> VerdictAnswer
+    ensures { λ r. ⌜ r ≡ verdictAnswer (verdict (now (file .entry)) base zone first second a b) ⌝ }
+{
+    let mut heights = [0u32; ROOM];
+    let mut codes = [0u8; ROOM];
+    let asked = Asked {
+        first,
+        second,
+        a,
+        b,
+        i: 0,
+    };
+    match profile::link(file, base, zone, asked, &mut heights, &mut codes) {
+        Walked::Whole(path) => VerdictAnswer {
+            refusal: 0,
+            place: 0,
+            clear: is_clear(path, &heights, &codes, a, b) as u32,
+        },
+        Walked::Refused(refusal, place) => VerdictAnswer {
+            refusal,
+            place,
+            clear: 0,
+        },
+    }
+}
