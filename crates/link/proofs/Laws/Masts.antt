@@ -8,7 +8,7 @@ use native.Mathlib.Nat.{mul-add, mul-assoc, mul-left-comm, le-refl, le-of-suc-le
 use native.Mathlib.Decide.{decLe, decLt}
 use native.Mathlib.Omega.{arith}
 use lib.Dec.{leb, ltb}
-use borrow.Author.Tests.{le-leb, leb-true, ltb-true, ltb-false}
+use borrow.Author.Tests.{le-leb, leb-true, ltb-false}
 use Rattle.terrain.specs.Index.{every}
 use Rattle.terrain.proofs.Laws.Every.{next, none, holds, holds-at}
 use Rattle.link.specs.Path.{line}
@@ -25,14 +25,14 @@ lifted n A B i m b h =
     rw (e, mul-add i (B + 1000 * m) (1000 * (b - m))) (simp (mul-assoc, mul-left-comm) (omega arith))
 
 -- the samples from 1 to before the end are clear with this second mast
-abbrev clearTo : (ℕ → ℕ) → ℕ → ℕ → ℕ → ℕ → ℕ → Bool
-clearTo needs n A B end mast = every (clearAt needs n A (B + 1000 * mast)) 1 end
+abbrev clearWith : (ℕ → ℕ) → ℕ → ℕ → ℕ → ℕ → ℕ → Bool
+clearWith needs n A B end mast = every (clearAt needs n A (B + 1000 * mast)) 1 end
 
 -- the least second mast with which the samples from 1 to before the end are clear
 pub record Least (needs : ℕ → ℕ) (n A B end mast : ℕ) : Type 0 where
   pub first : 1 ≤ end
-  pub clear : clearTo needs n A B end mast ≡ true
-  pub least : (b : ℕ) → clearTo needs n A B end b ≡ true → mast ≤ b
+  pub clear : clearWith needs n A B end mast ≡ true
+  pub least : (b : ℕ) → clearWith needs n A B end b ≡ true → mast ≤ b
 
 module _ {needs : ℕ → ℕ} {n A B : ℕ} where
   pub none-tried : Least needs n A B 1 0
@@ -47,14 +47,14 @@ module _ {needs : ℕ → ℕ} {n A B : ℕ} where
   onward : {i mast : ℕ} → Least needs n A B i mast → (m : ℕ) → mast ≤ m → needs i ≤ line n A (B + 1000 * m) i
       → ((b : ℕ) → mast ≤ b → needs i ≤ line n A (B + 1000 * b) i → m ≤ b) → Least needs n A B (i + 1) m
   onward {i} {mast} w m up h none-lower =
-      let one-more : (b : ℕ) → clearTo needs n A B (i + 1) b ≡ (clearTo needs n A B i b && clearAt needs n A (B + 1000 * b) i) =
+      let one-more : (b : ℕ) → clearWith needs n A B (i + 1) b ≡ (clearWith needs n A B i b && clearAt needs n A (B + 1000 * b) i) =
       λ b. next (clearAt needs n A (B + 1000 * b)) 1 i (w .first) in
       record {
         first = omega arith;
         clear = rw (one-more m, le-leb (needs i) (line n A (B + 1000 * m) i) h, and-true)
             (taller-to needs n A (B + 1000 * mast) A (B + 1000 * m) (le-refl A) (omega arith) i (w .clear));
         least = λ b t.
-            let both = and-eq-true-iff (clearTo needs n A B i b) _ .0 (sym (one-more b) ∙ t) in
+            let both = and-eq-true-iff (clearWith needs n A B i b) _ .0 (sym (one-more b) ∙ t) in
             none-lower b (w .least b (both .0)) (leb-true _ _ (both .1));
       }
 
@@ -103,20 +103,9 @@ pub record Tried (clears : ℕ → ℕ → Bool) (la lb sum mast a : ℕ) : Type
   pub least : (x y : ℕ) → Pair clears la lb x y → x < a → sum ≤ x + y
   pub lower : (x y : ℕ) → Pair clears la lb x y → x < mast → sum < x + y
 
--- the test of the loop: a first mast within its limit, and below the sum
-pub both-hold : (a la sum : ℕ) → (leb a la && ltb a sum) ≡ true → (a ≤ la) × (a < sum)
-both-hold a la sum e =
-    let t = and-eq-true-iff (leb a la) (ltb a sum) .0 e in
-    (leb-true a la (t .0), ltb-true a sum (t .1))
-
-pub one-fails : (a la sum : ℕ) → (leb a la && ltb a sum) ≡ false → a ≤ la → sum ≤ a
-one-fails a la sum e h = ltb-false a sum (rw (le-leb a la h) at e)
-
--- two orders that were tested together
-pub both-below : (a b c d : ℕ) → (ltb a b && ltb c d) ≡ true → (a < b) × (c < d)
-both-below a b c d e =
-    let t = and-eq-true-iff (ltb a b) (ltb c d) .0 e in
-    (ltb-true a b (t .0), ltb-true c d (t .1))
+-- where the test of the loop fails, a first mast within its limit is not below the sum
+pub past-loop : (a la sum : ℕ) → (leb a la && ltb a sum) ≡ false → a ≤ la → sum ≤ a
+past-loop a la sum e h = ltb-false a sum (rw (le-leb a la h) at e)
 
 -- a sample that blocks, or that there is none; ..
 pub blocks-at : (needs : ℕ → ℕ) (n A B i : ℕ) → 1 ≤ i → i < n → line n A B i < needs i → Blocks needs n A B i

@@ -1,9 +1,12 @@
 -- `blocked_at` meets its contract. The loop's invariant: the samples passed are clear. Assumes nothing.
+use mathlib.Core.Bool.{and-eq-true-iff}
 use Prim.Native.Nat.{_-_}
 use native.Mathlib.Omega.{arith}
+use lib.Dec.{ltb}
 use lib.ListN.{getD}
+use borrow.Author.Tests.{ltb-true}
 use Rattle.link.proofs.Laws.Clear.{ClearTo, clear-none, clear-more}
-use Rattle.link.proofs.Laws.Masts.{blocks-at, blocks-none, both-below}
+use Rattle.link.proofs.Laws.Masts.{blocks-at, blocks-none}
 use Rattle.link.proofs.plan.blocked_at.Statement.{statement}
 use Rattle.link.proofs.plan.blocked_at.Tie as tie
 
@@ -25,8 +28,11 @@ element-copy-out-if1 c = omega arith
 returns : tie.Need-returns Inv-loop μ-loop
 returns c =
     let a = c .before .before .before .args in
+    let line = c .before .before .line .result in
     let need = getD (a .needs .now) (a .tried) 0 in
-    let low = both-below 0 (a .tried) (c .before .before .line .result) need (c .if1 .taken) in
+    let t = and-eq-true-iff (ltb 0 (a .tried)) (ltb line need) .0 (c .if1 .taken) in
+    let some = ltb-true 0 (a .tried) (t .0) in
+    let low = ltb-true line need (t .1) in
     blocks-at (λ k. getD (a .needs .now) k 0) (a .n) (a .first) (a .last) (a .tried) (omega arith) (omega arith) (omega arith)
 
 loop-holds : tie.Need-loop-holds Inv-loop μ-loop

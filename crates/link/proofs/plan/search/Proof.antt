@@ -1,12 +1,15 @@
 -- `search` meets its contract. The loop's invariant: the first masts below `a` have been tried. Assumes nothing.
 use mathlib.Core.Path.{_≡_, refl}
 use mathlib.Core.Logic.{⊎-elim}
+use mathlib.Core.Bool.{and-eq-true-iff}
 use Prim.Native.Nat.{_+_, _-_, _*_, min, _≤_, _<_}
 use native.Mathlib.Omega.{arith}
+use lib.Dec.{leb, ltb}
 use lib.ListN.{getD}
+use borrow.Author.Tests.{leb-true, ltb-true}
 use Rattle.link.specs.Clear.{clearBy}
 use Rattle.link.specs.Inside.{Sides}
-use Rattle.link.proofs.Laws.Masts.{Tried, none-found, none-clears, found, passed, best, no-pair, both-hold, one-fails}
+use Rattle.link.proofs.Laws.Masts.{Tried, none-found, none-clears, found, passed, best, no-pair, past-loop}
 use Rattle.link.proofs.plan.search.Statement.{statement}
 use Rattle.link.proofs.plan.search.Tie as tie
 
@@ -30,7 +33,10 @@ within : (c : tie.In-loop Inv-loop μ-loop) → (
     let w = c .before in
     (w .loop .a ≤ w .before .args .la) × (w .loop .a < w .loop .sum)
     )
-within c = let w = c .before in both-hold (w .loop .a) (w .before .args .la) (w .loop .sum) (c .loop-test .taken)
+within c =
+    let w = c .before in
+    let t = and-eq-true-iff (leb (w .loop .a) (w .before .args .la)) (ltb (w .loop .a) (w .loop .sum)) .0 (c .loop-test .taken) in
+    (leb-true _ _ (t .0), ltb-true _ _ (t .1))
 
 -- .. with the second mast within its limit, and no more than makes the sum smaller
 room : (c : tie.Joined1 Inv-loop μ-loop) → (
@@ -99,7 +105,7 @@ loop-again c =
 
 -- after the loop every first mast within its limit is tried, or would by itself come to the sum
 all-tried : (c : tie.After-loop Inv-loop μ-loop) → (let w = c .before in w .loop .a ≤ w .before .args .la → w .loop .sum ≤ w .loop .a)
-all-tried c = let w = c .before in one-fails (w .loop .a) (w .before .args .la) (w .loop .sum) (c .loop-test .left)
+all-tried c = let w = c .before in past-loop (w .loop .a) (w .before .args .la) (w .loop .sum) (c .loop-test .left)
 
 add-if3 : tie.Need-add-if3 Inv-loop μ-loop
 add-if3 c = omega arith
