@@ -57,8 +57,13 @@ pub record Blocks (needs : ℕ → ℕ) (n A B r : ℕ) : Type 0 where
   pub blocked : r < n → line n A B r < needs r
   pub clear : n ≤ r → clearBy needs n A B ≡ true
 
--- the least second mast that clears, if it is at most k; else k + 1
-pub record LeastSecond (clears : ℕ → Bool) (k r : ℕ) : Type 0 where
-  pub most : r ≤ k + 1
-  pub clear : r ≤ k → clears r ≡ true
-  pub least : (b : ℕ) → b ≤ k → clears b ≡ true → r ≤ b
+-- with some second mast, within its bound, the path is clear
+pub record SomeSecond (needs : ℕ → ℕ) (n A B : ℕ) : Type 0 where
+  pub mast : ℕ
+  pub bound : B + 1000 * mast ≤ 8290000
+  pub clear : clearBy needs n A (B + 1000 * mast) ≡ true
+
+-- the least second mast that clears
+pub record LeastSecond (clears : ℕ → Bool) (r : ℕ) : Type 0 where
+  pub clear : clears r ≡ true
+  pub least : (b : ℕ) → clears b ≡ true → r ≤ b

@@ -5,7 +5,7 @@ ghost use lib.ListN.{length, getD};
 ghost use Rattle.link.specs.Profile.{linkOf, linked};
 ghost use Rattle.link.specs.Clear.{need, clearBy, clear, ofMasts};
 ghost use Rattle.link.specs.Plan.{Demand3, plannedMeans, planAnswer, Plan};
-ghost use Rattle.link.specs.Inside.{SoundLink, Needed, Sides, Blocks, LeastSecond};
+ghost use Rattle.link.specs.Inside.{SoundLink, Needed, Sides, Blocks, SomeSecond, LeastSecond};
 use crate::clear;
 use crate::path;
 use crate::path::Asked;
@@ -63,11 +63,11 @@ fn blocked_at(n: u32, first: u32, last: u32, needs: &[u32; ROOM], tried: u32) ->
     n
 }
 
-// The least second mast with which the path is clear, if it is at most `most`; else `most` + 1.
-// `first` is A, `last` B without a mast.
-fn least_second(n: u32, first: u32, last: u32, needs: &[u32; ROOM], most: u32) -> u32
-    requires { ⌜ Sides n first (last + 1000 * most) (now needs) × (most ≤ 100) ⌝ }
-    ensures { λ r. ⌜ LeastSecond (λ b. clearBy (λ i. getD (now (needs .entry)) i 0) n first (last + 1000 * b)) most r ⌝ }
+// The least second mast with which the path is clear, where there is one. `first` is A, `last` B
+// without a mast.
+fn least_second(n: u32, first: u32, last: u32, needs: &[u32; ROOM]) -> u32
+    requires { ⌜ Sides n first last (now needs) × SomeSecond (λ i. getD (now needs) i 0) n first last ⌝ }
+    ensures { λ r. ⌜ LeastSecond (λ b. clearBy (λ i. getD (now (needs .entry)) i 0) n first (last + 1000 * b)) r ⌝ }
 {
     let mut mast = 0;
     for i in 1..n {
@@ -75,9 +75,6 @@ fn least_second(n: u32, first: u32, last: u32, needs: &[u32; ROOM], most: u32) -
         let need = needs[i as usize];
         if line < need {
             mast += clear::rounded_up(need - line, clear::IN_A_METRE * i);
-            if most < mast {
-                return most + 1;
-            }
         }
     }
     mast
@@ -101,7 +98,7 @@ fn search(n: u32, first: u32, last: u32, needs: &[u32; ROOM], la: u32, lb: u32) 
         if at < n {
             tried = at;
         } else {
-            sum = a + least_second(n, raised, last, needs, most);
+            sum = a + least_second(n, raised, last, needs);
             mast = a;
         }
         a += 1;

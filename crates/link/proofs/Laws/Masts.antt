@@ -5,7 +5,7 @@ use mathlib.Core.Logic.{_↔_, ⊎-elim}
 use mathlib.Core.Bool.{Bool, true, false, _&&_, and-true, and-eq-true-iff, true≢false}
 use Prim.Native.Nat.{ℕ, _+_, _-_, _*_, min, _≤_, _<_}
 use native.Mathlib.Nat.{mul-add, mul-assoc, mul-left-comm, le-refl, le-of-suc-le-suc, lt-of-not-le, eq-or-lt-of-le}
-use native.Mathlib.Decide.{decLe, decLt}
+use native.Mathlib.Decide.{decLt}
 use native.Mathlib.Omega.{arith}
 use lib.Dec.{leb, ltb}
 use borrow.Author.Tests.{le-leb, leb-true, ltb-false}
@@ -73,26 +73,15 @@ module _ {needs : ℕ → ℕ} {n A B : ℕ} where
       onward w (mast + d) (omega arith) (omega (arith, lifts (mast + d) (omega arith), enough (mast + d - mast) .0 (omega arith)))
       λ b u t. omega (arith, enough (b - mast) .1 (omega (arith, lifts b u)))
 
-  -- a mast above k is needed before the end, ..
-  pub too-tall : {i mast k : ℕ} → Least needs n A B i mast → i ≤ n → k < mast
-      → LeastSecond (λ b. clearBy needs n A (B + 1000 * b)) k (k + 1)
+  -- no mast that clears the path is lower, ..
+  pub least-within : {i mast : ℕ} → Least needs n A B i mast → i ≤ n → (b : ℕ) → clearBy needs n A (B + 1000 * b) ≡ true → mast ≤ b
   unfolding clearBy
-  too-tall {i} w l h =
-      record {
-        most = omega arith;
-        clear = λ u. absurd (omega arith);
-        least = λ b u t. absurd (omega (arith, w .least b (holds _ 1 i λ j v s. holds-at _ 1 n t j v (omega arith))));
-      }
+  least-within {i} w l b t = w .least b (holds _ 1 i λ j v s. holds-at _ 1 n t j v (omega arith))
 
-  -- .. or one up to k does to the end
-  pub tall-enough : {i mast k : ℕ} → Least needs n A B i mast → i ≡ n → mast ≤ k → LeastSecond (λ b. clearBy needs n A (B + 1000 * b)) k mast
+  -- .. and at the end it is the least that does
+  pub least-at-end : {i mast : ℕ} → Least needs n A B i mast → i ≡ n → LeastSecond (λ b. clearBy needs n A (B + 1000 * b)) mast
   unfolding clearBy
-  tall-enough w e h =
-      record {
-        most = omega arith;
-        clear = λ u. rw e at (w .clear);
-        least = λ b u t. w .least b (rw e t);
-      }
+  least-at-end w e = record { clear = rw e at (w .clear); least = λ b t. w .least b (rw e t) }
 
 -- The first masts below a have been tried. The sum is that of the clear pair with this first mast, or one more than that of the limits; no clear
 -- pair with a first mast that was tried has a smaller one, and each with a lower first mast than this has a greater one.
@@ -122,14 +111,6 @@ none-clears {needs} {n} {A} {r} B k b h y l t =
     let up = taller needs n A (B + 1000 * y) A (B + 1000 * k) (le-refl A) (omega arith) t in
     true≢false (sym up ∙ blocked needs n A (B + 1000 * k) r (b .first) h (b .blocked h))
 
--- no second mast that clears, of any height, is lower
-lowest : {test : ℕ → Bool} {k r : ℕ} → LeastSecond test k r → (b : ℕ) → test b ≡ true → r ≤ b
-lowest {k = k} {r} s b t = go (decLe b k)
-  where
-    go : Dec (b ≤ k) → r ≤ b
-    go (yes l) = s .least b l t
-    go (no h) = omega (arith, s .most)
-
 module _ {clears : ℕ → ℕ → Bool} {la lb : ℕ} where
   pub none-found : Tried clears la lb (la + lb + 1) 0 0
   none-found =
@@ -151,15 +132,15 @@ module _ {clears : ℕ → ℕ → Bool} {la lb : ℕ} where
 
   -- the first mast a makes a clear pair with a smaller sum, ..
   pub found : {sum mast a k b : ℕ} → Tried clears la lb sum mast a → a ≤ la → a < sum → k ≡ min lb (sum - 1 - a)
-      → LeastSecond (clears a) k b → clears a k ≡ true → Tried clears la lb (a + b) a (a + 1)
+      → LeastSecond (clears a) b → clears a k ≡ true → Tried clears la lb (a + b) a (a + 1)
   found {a = a} {k = k} {b = b} t l u e s c =
-      let h : b ≤ k = s .least k (le-refl k) c in
+      let h : b ≤ k = s .least k c in
       let back : a + b - a ≡ b = omega arith in
       record {
         most = omega arith;
         under = omega arith;
-        pair = λ v. rw back (record { first = l; second = omega arith; clear = s .clear h });
-        least = least-with t (a + b) (omega arith) λ y p. omega (arith, lowest s y (p .clear));
+        pair = λ v. rw back (record { first = l; second = omega arith; clear = s .clear });
+        least = least-with t (a + b) (omega arith) λ y p. omega (arith, s .least y (p .clear));
         lower = λ x y p v. omega (arith, t .least x y p v);
       }
 

@@ -1,31 +1,37 @@
--- `least_second` meets its contract. The loop's invariant: `mast` is the least with which the samples passed are clear, and at most `most`.
--- Assumes nothing.
+-- `least_second` meets its contract. The loop's invariant: `mast` is the least with which the samples passed are clear; so it is within the bound
+-- of one that clears them all. Assumes nothing.
 use mathlib.Core.Logic.{⊎-elim}
 use Prim.Native.Nat.{_+_, _-_, _*_, _≤_}
 use native.Mathlib.Omega.{arith}
 use lib.ListN.{getD}
-use Rattle.link.proofs.Laws.Rounding.{rounded-up}
-use Rattle.link.proofs.Laws.Masts.{Least, none-tried, stays, rises, too-tall, tall-enough}
+use Rattle.link.proofs.Laws.Masts.{Least, none-tried, stays, rises, least-within, least-at-end}
 use Rattle.link.proofs.plan.least_second.Statement.{statement}
 use Rattle.link.proofs.plan.least_second.Tie as tie
 
 abbrev Inv-loop : tie.InvT-loop
-Inv-loop n first last needs most mast₀ i₀ mast i = (i ≤ n) × (mast ≤ most) × Least (λ k. getD needs k 0) n first last i mast
+Inv-loop n first last needs mast₀ i₀ mast i = (i ≤ n) × Least (λ k. getD needs k 0) n first last i mast
 
 abbrev μ-loop : tie.MeasureT-loop
-μ-loop n first last needs most mast₀ i₀ mast i = n - i
+μ-loop n first last needs mast₀ i₀ mast i = n - i
 
 loop-holds : tie.Need-loop-holds Inv-loop μ-loop
-loop-holds c = (omega arith, omega arith, none-tried)
+loop-holds c = (omega arith, none-tried)
+
+-- the mast so far is no taller than one that clears the path
+bounded : (w : tie.At-loop Inv-loop μ-loop) → w .before .args .last + 1000 * w .loop .mast ≤ 8290000
+bounded w =
+    let some = w .before .pre .1 in
+    omega (arith, least-within (w .loop .inv .1) (w .loop .inv .0) (some .mast) (some .clear))
 
 mul-line : tie.Need-mul-line Inv-loop μ-loop
-mul-line c = omega arith
+mul-line c = omega (arith, bounded (c .before))
 
 add-line : tie.Need-add-line Inv-loop μ-loop
-add-line c = omega arith
+add-line c = omega (arith, bounded (c .before))
 
 line-requires : tie.Need-line-requires Inv-loop μ-loop
-line-requires c κs = (record { some = omega arith; most = omega arith; within = omega arith }, (omega arith, omega arith))
+line-requires c κs =
+    (record { some = omega arith; most = omega arith; within = omega arith }, (omega arith, omega (arith, bounded (c .before))))
 
 cast-need : tie.Need-cast-need Inv-loop μ-loop
 cast-need c = omega arith
@@ -42,24 +48,10 @@ sub-rounded-up c = omega arith
 mul-rounded-up : tie.Need-mul-rounded-up Inv-loop μ-loop
 mul-rounded-up c = omega arith
 
--- the need at hand is within its bound
-need-bounded : (c : tie.Then1 Inv-loop μ-loop) → (
-    let w = c .before .before .before .before in
-    getD (w .before .args .needs .now) (w .loop .i) 0 ≤ 2000000000
-    )
-need-bounded c =
-    let w = c .before .before .before .before in
-    w .before .pre .0 .needs (w .loop .i) (omega arith) (omega arith)
-
 rounded-up-requires : tie.Need-rounded-up-requires Inv-loop μ-loop
-rounded-up-requires c κs = (omega arith, omega (arith, need-bounded c))
-
-add-mast : tie.Need-add-mast Inv-loop μ-loop
-add-mast c =
-    let w = c .before .before .before .before .before in
-    let i = w .loop .i in
-    let missing = getD (w .before .args .needs .now) i 0 - c .before .before .before .line .result in
-    omega (arith, rounded-up missing (1000 * i) 2000000000 (omega arith) .1 (omega (arith, need-bounded (c .before))))
+rounded-up-requires c κs =
+    let w = c .before .before .before .before in
+    (omega arith, omega (arith, w .before .pre .0 .needs (w .loop .i) (omega arith) (omega arith)))
 
 -- the mast after the line is lifted to the need
 lifted : (c : tie.After-rounded-up Inv-loop μ-loop) → (
@@ -69,13 +61,12 @@ lifted : (c : tie.After-rounded-up Inv-loop μ-loop) → (
     )
 lifted c =
     let line = c .before .before .before in
-    rises (line .before .before .loop .inv .2) (line .line .ensures) (c .rounded-up .ensures)
+    rises (line .before .before .loop .inv .1) (line .line .ensures) (c .rounded-up .ensures)
 
-add-result : tie.Need-add-result Inv-loop μ-loop
-add-result c = omega arith
-
-returns : tie.Need-returns Inv-loop μ-loop
-returns c = too-tall (lifted (c .before)) (omega arith) (c .if2 .taken)
+add-mast : tie.Need-add-mast Inv-loop μ-loop
+add-mast c =
+    let some = c .before .before .before .before .before .before .pre .1 in
+    omega (arith, some .bound, least-within (lifted c) (omega arith) (some .mast) (some .clear))
 
 add-i : tie.Need-add-i Inv-loop μ-loop
 add-i c = omega arith
@@ -85,12 +76,12 @@ loop-less c = omega arith
 
 loop-again : tie.Need-loop-again Inv-loop μ-loop
 loop-again c = ⊎-elim
-    (λ w. (omega arith, omega arith, rw (w .3) (lifted (record { before = record { before = c .before; if1 = w .0 }; rounded-up = w .1 }))))
-    (λ w. (omega arith, omega arith, rw (w .1) (stays (c .before .before .before .before .loop .inv .2) (omega arith))))
+    (λ w. (omega arith, rw (w .2) (lifted (record { before = record { before = c .before; if1 = w .0 }; rounded-up = w .1 }))))
+    (λ w. (omega arith, rw (w .1) (stays (c .before .before .before .before .loop .inv .1) (omega arith))))
     (c .if1 .came)
 
-returns-2 : tie.Need-returns-2 Inv-loop μ-loop
-returns-2 c = tall-enough (c .before .loop .inv .2) (omega arith) (omega arith)
+returns : tie.Need-returns Inv-loop μ-loop
+returns c = least-at-end (c .before .loop .inv .1) (omega arith)
 
 pub least-second-spec : {M : Type 1} → statement M
 least-second-spec =
@@ -109,9 +100,7 @@ least-second-spec =
     mul-rounded-up
     rounded-up-requires
     add-mast
-    add-result
-    returns
     add-i
     loop-less
     loop-again
-    returns-2)
+    returns)

@@ -76,12 +76,18 @@ blocked-at-requires : tie.Need-blocked-at-requires Inv-loop μ-loop
 blocked-at-requires c κs = (sides (c .before), c .before .before .before .loop .inv .0)
 
 least-second-requires : tie.Need-least-second-requires Inv-loop μ-loop
-least-second-requires c κs = let at = c .before .before .before in (sides at, omega (arith, room at))
+least-second-requires c κs =
+    let at = c .before .before .before in
+    let s = sides at in (
+      record { some = s .some; most = s .most; first = s .first; last = omega (arith, s .last); needs = s .needs },
+      record { mast = at .if1 .most; bound = s .last; clear = c .before .blocked-at .ensures .clear (omega arith) },
+    )
 
 add-sum-3 : tie.Need-add-sum-3 Inv-loop μ-loop
 add-sum-3 c =
     let at = c .before .before .before .before in
-    omega (arith, within (at .before), room at, c .least-second .ensures .most)
+    let clear = c .before .before .blocked-at .ensures .clear (omega arith) in
+    omega (arith, within (at .before), room at, c .least-second .ensures .least (at .if1 .most) clear)
 
 add-a : tie.Need-add-a Inv-loop μ-loop
 add-a c = omega (arith, within (c .before .before .before .before))
