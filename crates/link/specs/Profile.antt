@@ -62,18 +62,20 @@ linkIn file t w = profileBy (λ i. pointIn file t (sample w i)) (w .n) andThen �
 unfoldable pub linked : List ℕ → ℕ → ℕ → Asked → Outcome Link
 linked file base zone asked = checked file base zone andThen λ t. pathOn (t .ground) asked andThen linkIn file t
 
--- what each case of the answer means, beside the heights and codes that were read
+-- the link of a path, and of the heights and codes that were read
 abbrev pub linkOf : Path → List ℕ → List ℕ → Link
 linkOf w heights codes = record { path = w; profile = record { n = w .n; heights = heights; codes = codes } }
 
+-- what each case of the answer means, beside the heights and codes
 abbrev pub linkMeans : Walked → List ℕ → List ℕ → Outcome Link
 linkMeans (walked.Whole w) heights codes = given (linkOf w heights codes)
 linkMeans (walked.Refused number place) heights codes = refused number place
 
--- a profile asks for no mast and no sample, so 8 has no place in it
+-- a call that asks for no mast and no sample: 8 has no place in it
 abbrev pub ofPath : Point → Point → Asked
 ofPath first second = record { first = first; second = second; a = 0; b = 0; i = 0 }
 
+-- the profile of the path between two points
 unfoldable pub profile : List ℕ → ℕ → ℕ → Point → Point → Outcome Profile
 profile file base zone first second = linked file base zone (ofPath first second) andThen λ l. given (l .profile)
 

@@ -31,7 +31,7 @@ module _ (needs : ℕ → ℕ) (n A B : ℕ) where
   unfolding clearBy
   clear-all {i} t h = let e : i ≡ n = omega (arith, t .most) in rw e at (t .clear)
 
-  -- one at which it is
+  -- a sample at which the line is below the need
   pub blocked : (i : ℕ) → 1 ≤ i → i < n → line n A B i < needs i → clearBy needs n A B ≡ false
   unfolding clearBy
   blocked i l h b = fails-at (clearAt needs n A B) 1 n i l h (lt-leb _ _ b)
@@ -44,14 +44,14 @@ module _ (needs : ℕ → ℕ) (n A B : ℕ) where
     λ f. holds (clearAt needs n A B) 1 n λ i l h. le-leb _ _ (f i l h),
   )
 
--- up to any sample ..
+-- with taller masts the samples up to any one stay clear ..
 pub taller-to : (needs : ℕ → ℕ) (n A B A' B' : ℕ) → A ≤ A' → B ≤ B' → (end : ℕ)
     → every (clearAt needs n A B) 1 end ≡ true → every (clearAt needs n A' B') 1 end ≡ true
 taller-to needs n A B A' B' first second end t = holds (clearAt needs n A' B') 1 end λ i l h.
     let before = leb-true (needs i) (line n A B i) (holds-at (clearAt needs n A B) 1 end t i l h) in
     le-leb (needs i) (line n A' B' i) (omega (arith, mul-le-mul-left (n - i) first, mul-le-mul-left i second))
 
--- .. and so on the whole path
+-- .. and so does the whole path
 pub taller : (needs : ℕ → ℕ) (n A B A' B' : ℕ) → A ≤ A' → B ≤ B' → clearBy needs n A B ≡ true → clearBy needs n A' B' ≡ true
 unfolding clearBy
 taller needs n A B A' B' first second = taller-to needs n A B A' B' first second n
