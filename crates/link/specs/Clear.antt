@@ -7,7 +7,7 @@ use Rattle.ground.specs.Outcome.{Outcome, given, _andThen_, refusalNumber, refu
 use Rattle.ground.specs.declared.point.Point.{Point}
 use Rattle.terrain.specs.Index.{every}
 use Rattle.terrain.specs.declared.reading.Reading.{Reading}
-use Rattle.link.specs.Path.{line}
+use Rattle.link.specs.Path.{asking, line}
 use Rattle.link.specs.Profile.{Link, sampleOf, linked}
 use Rattle.link.specs.declared.path.Path.{Path}
 use Rattle.link.specs.declared.path.Asked.{Asked}
@@ -50,7 +50,7 @@ clear l a b =
 
 -- a call that asks for two masts, or two mast limits
 abbrev pub ofMasts : Point → Point → ℕ → ℕ → Asked
-ofMasts first second a b = record { first = first; second = second; a = a; b = b; i = 0 }
+ofMasts first second a b = asking first second a b 0
 
 -- the verdict on two masts: refusal 8 for one above 100, and else whether the path is clear
 unfoldable pub verdict : List ℕ → ℕ → ℕ → Point → Point → ℕ → ℕ → Outcome Bool

@@ -41,6 +41,10 @@ line n from to i = (n - i) * from + i * to
 unfoldable pub along : ℕ → ℕ → ℕ → ℕ → ℕ
 along n from to i = line n from to i / n
 
+-- what a call asks: the ends of a path, two masts or mast limits, and a sample
+abbrev pub asking : Point → Point → ℕ → ℕ → ℕ → Asked
+asking first second a b i = record { first = first; second = second; a = a; b = b; i = i }
+
 -- the path between two ends
 abbrev pub pathOf : Point → Point → Path
 pathOf first second = record { first = first; second = second; q = Q first second; n = N (Q first second) }

@@ -8,7 +8,7 @@ use Rattle.terrain.specs.Check.{checked}
 use Rattle.terrain.specs.Reading.{pointIn}
 use Rattle.terrain.specs.declared.check.Terrain.{Terrain}
 use Rattle.terrain.specs.declared.reading.Reading.{Reading}
-use Rattle.link.specs.Path.{sample, pathOn}
+use Rattle.link.specs.Path.{asking, sample, pathOn}
 use Rattle.link.specs.declared.path.Path.{Path}
 use Rattle.link.specs.declared.path.Asked.{Asked}
 use Rattle.link.specs.declared.profile.Walked.{Walked}
@@ -73,7 +73,7 @@ linkMeans (walked.Refused number place) heights codes = refused number place
 
 -- a call that asks for no mast and no sample: 8 has no place in it
 abbrev pub ofPath : Point → Point → Asked
-ofPath first second = record { first = first; second = second; a = 0; b = 0; i = 0 }
+ofPath first second = asking first second 0 0 0
 
 -- the profile of the path between two points
 unfoldable pub profile : List ℕ → ℕ → ℕ → Point → Point → Outcome Profile

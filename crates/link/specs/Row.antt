@@ -6,6 +6,7 @@ use lib.Ieee.{Float, binary64, div, ofInt}
 use Rattle.ground.specs.Outcome.{Outcome, given, _andThen_, refusalNumber, refusalPlace, filledBy}
 use Rattle.ground.specs.declared.point.Point.{Point}
 use Rattle.terrain.specs.Engine.{metresOf}
+use Rattle.link.specs.Path.{asking}
 use Rattle.link.specs.Profile.{Link, sampleOf, linked}
 use Rattle.link.specs.declared.path.Asked.{Asked}
 use Rattle.link.specs.declared.row.Row.{Row}
@@ -25,7 +26,7 @@ rowOf l i = record { height = metresOf (sampleOf (l .profile) i .height); share 
 
 -- a call that asks for a sample
 abbrev pub ofSample : Point → Point → ℕ → Asked
-ofSample first second i = record { first = first; second = second; a = 0; b = 0; i = i }
+ofSample first second i = asking first second 0 0 i
 
 -- the row of sample i: refusal 8 for a sample above N
 unfoldable pub row : List ℕ → ℕ → ℕ → Point → Point → ℕ → Outcome Row

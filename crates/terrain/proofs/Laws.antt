@@ -1,6 +1,7 @@
 -- The laws that belong to no one function. Those marked pub are for the functions' proofs and the rooms above.
 --     Every        a test at each number of a range
 --     Index        whole records; the walk over the index, and its marks
+--     Marks        what the marks tell
 --     Passes       the rules of a file that passes
 --     Checked      what is so of a file that passed its check
 --     Corner       the four corners, and the bounds of their height
@@ -11,6 +12,7 @@
 --     Witness      some file passes, and a point of it is read
 pub mod Every
 pub mod Index
+pub mod Marks
 pub mod Passes
 pub mod Checked
 pub mod Corner

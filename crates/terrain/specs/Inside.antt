@@ -1,23 +1,25 @@
 -- What the functions inside this crate ask of each other and tell each other, on the way to the promises. A reader of the promises may pass
 -- over this file. Assumes nothing.
 use mathlib.Core.Path.{_≡_}
-use mathlib.Core.Bool.{not}
+use mathlib.Core.Bool.{Bool, true, false, not, _&&_}
 use mathlib.Core.List.{List}
 use Prim.Native.Nat.{ℕ, _+_, _*_, _≤_, _<_}
-use lib.ListN.{length}
+use lib.Dec.{leb, eqb}
+use lib.ListN.{length, getD}
 use Rattle.ground.specs.Outcome.{Outcome, given, unless, _andThen_}
 use Rattle.ground.specs.Place.{number, word}
 use Rattle.ground.specs.declared.Ground.{Ground}
 use Rattle.ground.specs.declared.place.Place.{Place}
 use Rattle.ground.specs.declared.place.Words.{Words}
 use Rattle.ground.specs.declared.place.Weights.{Weights}
-use Rattle.terrain.specs.Index.{position, highest, indexPasses}
+use Rattle.terrain.specs.Index.{position, highest, fresh, entriesPass, indexPasses}
 use Rattle.terrain.specs.Record.{entry, taken}
 use Rattle.terrain.specs.Corner.{corner}
 use Rattle.terrain.specs.Reading.{readTaken}
 use Rattle.terrain.specs.declared.check.Terrain.{Terrain}
 use Rattle.terrain.specs.declared.corner.Corner.{Corner}
 use Rattle.terrain.specs.declared.corner.Corners.{Corners}
+use Rattle.terrain.specs.declared.marks.Four.{Four}
 use Rattle.terrain.specs.declared.reading.Reading.{Reading}
 
 -- What the walk over the index tells: each position from this one to before r holds 0, and r is at most the end; ..
@@ -30,6 +32,39 @@ pub record Skipped (file : List ℕ) (from end r : ℕ) : Type 0 where
 pub record NextEntry (file : List ℕ) (from end r : ℕ) : Type 0 where
   pub skipped : Skipped file from end r
   pub holds : r < end → position file r ≡ 0 → ⊥
+
+-- a number from 7 to M
+abbrev pub isRecord : ℕ → ℕ → Bool
+isRecord number M = leb 7 number && leb number M
+
+-- Positions 1 to before n have been walked over: each passes, and just the numbers that stand in them are marked.
+pub record Walked (file : List ℕ) (M : ℕ) (marks : List Bool) (n : ℕ) : Type 0 where
+  pub most : M ≤ 4096
+  pub first : 1 ≤ n
+  pub room : length marks ≡ 4097
+  pub passed : entriesPass file M n ≡ true
+  pub marked : (r : ℕ) → 1 ≤ r → r ≤ 4096 → getD marks r false ≡ not (fresh file n r)
+
+-- What marking the numbers of k positions tells, of every file whose numbers they are: where none had a mark, so many positions more are walked
+-- over; and else the positions do not all pass.
+pub record Marks (k : ℕ) (Of : List ℕ → ℕ → ℕ → Type 0) (before after : List Bool) (r : Bool) : Type 0 where
+  pub goes : {file : List ℕ} {M n : ℕ} → Walked file M before n → Of file M n → r ≡ true → Walked file M after (n + k)
+  pub stops : {file : List ℕ} {M n : ℕ} → Walked file M before n → Of file M n → r ≡ false → (end : ℕ) → n + k ≤ end → entriesPass file M end ≡ false
+
+-- this number stands in position n, and is that of a record; so do these four, from position n on; or this number stands there, whatever it is
+abbrev pub RecordAt : ℕ → List ℕ → ℕ → ℕ → Type 0
+RecordAt number file M n = (number ≡ position file n) × (isRecord number M ≡ true)
+
+abbrev pub FourRecords : Four → List ℕ → ℕ → ℕ → Type 0
+FourRecords f file M n =
+    RecordAt (f .first) file M n × RecordAt (f .second) file M (n + 1) × RecordAt (f .third) file M (n + 2) × RecordAt (f .fourth) file M (n + 3)
+
+abbrev pub NumberAt : ℕ → ℕ → List ℕ → ℕ → ℕ → Type 0
+NumberAt number highest file M n = (number ≡ position file n) × (M ≡ highest)
+
+-- the numbers in positions n to n + 3
+abbrev pub fourAt : List ℕ → ℕ → Four
+fourAt file n = record { first = position file n; second = position file (n + 1); third = position file (n + 2); fourth = position file (n + 3) }
 
 -- positions n to n + 3 as one number, which is 0 exactly if all four are
 abbrev pub fourPositions : List ℕ → ℕ → ℕ
@@ -76,6 +111,10 @@ pub record Within (bytes : List ℕ) (w : Words) (weights : Weights) : Type 0 wh
 pub record Weighed (c : Corners) : Type 0 where
   pub corners : Each Sound c
   pub all : c .sw .weight + c .se .weight + (c .nw .weight + c .ne .weight) ≡ 250000
+
+-- the four corners have one code
+abbrev pub alike : Corners → Bool
+alike c = eqb (c .sw .code) (c .se .code) && eqb (c .nw .code) (c .ne .code) && eqb (c .sw .code) (c .nw .code)
 
 -- The place of a point in a checked file: the rectangle has a position or is rectangle 0, the file holds the index and the rectangle's record,
 -- the corners are words of a record, and the weights add up to 250,000.

@@ -5,7 +5,10 @@ ghost use Prim.Native.Nat.{_+_, _*_, _≤_};
 ghost use lib.ListN.{length};
 ghost use Rattle.terrain.specs.Bytes.{nth};
 ghost use Rattle.terrain.specs.Index.{wholeRecords, highestPasses, entriesPass, restEmpty, indexPasses};
-ghost use Rattle.terrain.specs.Inside.{fourPositions, Skipped, NextEntry};
+ghost use Rattle.terrain.specs.Inside.{fourPositions, fourAt, Skipped, NextEntry};
+use crate::marks;
+use crate::marks::Four;
+use crate::marks::MARKS;
 use crate::number::nth;
 use crate::record::LENGTH;
 use ground::rectangle::Rectangle;
@@ -14,10 +17,10 @@ use ground::rectangle::Rectangle;
 pub(crate) const LAST: usize = 3072;
 
 // How many records the index takes.
-const RECORDS: usize = 6;
+pub(crate) const RECORDS: usize = 6;
 
 // The most records that a file may have.
-const MOST: usize = 4096;
+pub(crate) const MOST: usize = 4096;
 
 // Whether the file's length is that of 6 to 4096 whole records.
 pub(crate) fn is_whole(file: &[u8]) -> bool
@@ -68,31 +71,46 @@ fn next_entry(file: &[u8], from: usize, end: usize) -> usize
     n
 }
 
+// The numbers in positions n to n + 3.
+fn four_at(file: &[u8], n: usize) -> Four
+    requires { ⌜ (1 ≤ n) × (2 * n + 6 ≤ length (now file)) ⌝ }
+    ensures { λ r. ⌜ r ≡ fourAt (now (file .entry)) n ⌝ }
+{
+    Four {
+        first: nth(file, n) as usize,
+        second: nth(file, n + 1) as usize,
+        third: nth(file, n + 2) as usize,
+        fourth: nth(file, n + 3) as usize,
+    }
+}
+
 // Whether each position from 1 to before the end holds 0, or a number from 7 to M that no position
-// before it holds. A mark stands for each number that was met.
+// before it holds. Four positions are taken at once where all four hold numbers, or 0.
 fn entries_pass(file: &[u8], highest: usize, end: usize) -> bool
-    requires { ⌜ (1 ≤ end) × ((2 * end ≤ length (now file)) × (highest ≤ 4096)) ⌝ }
+    requires { ⌜ (1 ≤ end) × ((2 * end ≤ length (now file)) × ((6 ≤ highest) × (highest ≤ 4096))) ⌝ }
     ensures { λ r. ⌜ r ≡ entriesPass (now (file .entry)) highest end ⌝ }
 {
-    let mut marks = [false; MOST + 1];
+    let mut marks = [false; MARKS];
     let mut n = 1;
+    while n + 4 <= end {
+        let four = four_at(file, n);
+        if marks::are_records(four, highest) {
+            if !marks::mark_four(four, &mut marks) {
+                return false;
+            }
+            n += 4;
+        } else {
+            if !marks::mark_one(four.first, highest, &mut marks) {
+                return false;
+            }
+            n = past_fours(file, n + 1, end);
+        }
+    }
     while n < end {
-        let entry = nth(file, n) as usize;
-        if highest < entry {
+        if !marks::mark_one(nth(file, n) as usize, highest, &mut marks) {
             return false;
         }
-        if entry <= RECORDS {
-            if entry != 0 {
-                return false;
-            }
-            n = next_entry(file, n + 1, end);
-        } else {
-            if marks[entry] {
-                return false;
-            }
-            marks[entry] = true;
-            n += 1;
-        }
+        n += 1;
     }
     true
 }

@@ -3,6 +3,7 @@ pub mod check;
 mod corner;
 pub mod engine;
 mod index;
+mod marks;
 mod number;
 pub mod reading;
 pub mod record;

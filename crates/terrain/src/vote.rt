@@ -2,7 +2,7 @@
 ghost use mathlib.Core.Path.{_≡_};
 ghost use Prim.Native.Nat.{_+_, _≤_, _<_};
 ghost use lib.ListN.{getD, set};
-ghost use Rattle.terrain.specs.Inside.{Weighed};
+ghost use Rattle.terrain.specs.Inside.{Weighed, alike};
 ghost use Rattle.terrain.specs.Vote.{vote, greatest};
 use crate::corner::Corner;
 use crate::corner::Corners;
@@ -32,8 +32,17 @@ fn greatest_of(sums: &[u32; CODES]) -> u32
     best as u32
 }
 
-// The surface code with the greatest sum of weights, ties to the smaller code.
-pub(crate) fn vote(corners: Corners) -> u32
+// Whether the four corners have one code.
+fn are_alike(corners: Corners) -> bool
+    ensures { λ r. ⌜ r ≡ alike corners ⌝ }
+{
+    (corners.sw.code == corners.se.code)
+        & (corners.nw.code == corners.ne.code)
+        & (corners.sw.code == corners.nw.code)
+}
+
+// The surface code with the greatest sum of weights, found by adding them up for each code.
+fn tally(corners: Corners) -> u32
     requires { ⌜ Weighed corners ⌝ }
     ensures { λ r. ⌜ r ≡ vote corners ⌝ }
 {
@@ -43,4 +52,16 @@ pub(crate) fn vote(corners: Corners) -> u32
     count(&mut sums, corners.nw);
     count(&mut sums, corners.ne);
     greatest_of(&sums)
+}
+
+// The surface code with the greatest sum of weights, ties to the smaller code. Where all corners have
+// one code, as most do, it is that.
+pub(crate) fn vote(corners: Corners) -> u32
+    requires { ⌜ Weighed corners ⌝ }
+    ensures { λ r. ⌜ r ≡ vote corners ⌝ }
+{
+    if are_alike(corners) {
+        return corners.sw.code;
+    }
+    tally(corners)
 }

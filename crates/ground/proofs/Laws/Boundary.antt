@@ -2,18 +2,19 @@
 -- and the last ends at 18,662; from these, which base a northing has. Assumes nothing.
 use mathlib.Core.Path.{_≡_, refl}
 use mathlib.Core.Logic.{_↔_}
-use mathlib.Core.Bool.{true, false, and-false, and-eq-true-iff}
+use mathlib.Core.Bool.{Bool, true, false, cond, and-false, and-eq-true-iff}
 use Prim.Native.Nat.{ℕ, zero, suc, _+_, _-_, _*_, _/_, _%_, _≤_, _<_}
 use native.Mathlib.Nat.{mul-le-mul, le-of-suc-le-suc, not-suc-le-zero, lt-of-not-le, le-of-lt}
 use native.Mathlib.Decide.{decLe}
 use native.Mathlib.Omega.{arith}
 use lib.Dec.{leb, eqb}
 use lib.ListN.{getD}
-use borrow.Author.Tests.{leb-true, eqb-true, le-ltb, le-leb, lt-ltb}
+use borrow.Author.Tests.{leb-true, ltb-true, eqb-true, le-ltb, le-leb, lt-ltb}
 use Rattle.ground.specs.Outcome.{given, refused}
 use Rattle.ground.specs.Measure.{units}
 use Rattle.ground.specs.Boundary.{yB, table1, span, rows, isBase, spans, firstSpanning, baseAt}
 use Rattle.ground.specs.declared.measure.Units.{Units}
+use Rattle.ground.proofs.Laws.Outcome.{not-both}
 use Rattle.ground.proofs.Laws.Every.{every-le, every-eq}
 
 -- Table 1 and formula 1 agree at all 22 entries
@@ -128,6 +129,22 @@ base-own y h l =
 pub base-is : (b : ℕ) (y : Units) → isBase b ≡ true → yB b .0 ≤ y .0 → y .0 < yB (b + 4) .0 → baseAt y ≡ given b
 unfolding baseAt
 base-is b y h l u = found 21 0 (b / 4) b y (base-at b h .0) (omega (arith, base-at b h)) l u
+
+spanning : (k b : ℕ) (y : Units) (a : ℕ) → firstSpanning k b y ≡ given a → spans a y ≡ true
+unfolding firstSpanning
+spanning zero b y a e = absurd (not-both e)
+spanning (suc k) b y a e = go (spans b y) refl e (spanning k (b + 4) y a)
+  where
+    go : (t : Bool) → spans b y ≡ t → cond t (given b) (firstSpanning k (b + 4) y) ≡ given a
+        → (firstSpanning k (b + 4) y ≡ given a → spans a y ≡ true) → spans a y ≡ true
+    go true q e more = let i : b ≡ a = cc e in rw i at q
+    go false q e more = more e
+
+pub base-spans : (b : ℕ) (y : Units) → baseAt y ≡ given b → (yB b .0 ≤ y .0) × (y .0 < yB (b + 4) .0)
+unfolding baseAt spans
+base-spans b y e =
+    let t = and-eq-true-iff _ _ .0 (spanning 21 0 y b e) in
+    (leb-true _ _ (t .0), ltb-true _ _ (t .1))
 
 pub base-refused : (y : Units) → (baseAt y ≡ refused 4 0) ↔ (18662 ≤ y .0)
 base-refused y = (λ e. go e (decLe 18662 (y .0)) (decLe (yB (4 * (y .0 / 899) + 4) .0) (y .0)), base-none y)

@@ -4,11 +4,16 @@ use mathlib.Core.Path.{_≡_, refl}
 use mathlib.Core.Bool.{Bool, true, false}
 use Prim.Native.Nat.{ℕ}
 use native.Mathlib.Omega.{arith}
-use Rattle.ground.specs.Outcome.{Outcome, given, refused, unless, _andThen_}
+use Rattle.ground.specs.Outcome.{Outcome, given, refused, unless, _andThen_, refusalNumber, refusalPlace}
 
 -- a refusal is no answer
 pub not-both : {A : Type 0} {number place : ℕ} {a : A} → refused number place ≡ given a → ⊥
 not-both e = let z : _≡_ {A = ℕ} 0 1 = cc in omega arith
+
+-- an outcome that shows a refusal is that refusal
+pub refused-is : {A : Type 0} (o : Outcome A) → (refusalNumber o ≡ 0 → ⊥) → o ≡ refused (refusalNumber o) (refusalPlace o)
+refused-is (given a) n = absurd (n refl)
+refused-is (refused number place) n = refl
 
 -- past a test
 pub past : {A : Type 0} (t : Bool) (number : ℕ) (o : Outcome A) (a : A) → unless t number o ≡ given a → (t ≡ false) × (o ≡ given a)

@@ -12,7 +12,7 @@ use mir.Val.{Fits}
 use Rattle.ground.specs.Measure.{inUnits}
 use Rattle.ground.specs.Boundary.{yB, rows}
 use Rattle.ground.specs.Ground.{groundOf, holds}
-use Rattle.ground.specs.Place.{number, weightsOf, placeAt, placeOf, word, locatedMeans}
+use Rattle.ground.specs.Place.{number, weightsOf, placeAt, placeOf, word, wordsOf, locatedMeans}
 use Rattle.ground.specs.declared.measure.Metres.{Metres}
 use Rattle.ground.specs.declared.point.Point.{Point}
 use Rattle.ground.specs.declared.Ground.{Ground}
@@ -88,3 +88,15 @@ located-once (At a) (At b) e = cc
 located-once (At a) (Refused k) e = cc
 located-once (Refused k) (At a) e = cc
 located-once (Refused k) (Refused l) e = cc
+
+-- Each weight is a product of a part east and a part north: with `weighs`, this leaves one set of weights.
+pub cross : (fx fy : Metres) → weightsOf fx fy .sw * weightsOf fx fy .ne ≡ weightsOf fx fy .se * weightsOf fx fy .nw
+unfolding weightsOf
+cross fx fy = omega arith
+
+-- One unit east is the next word, and one unit north is 16 words on, so that neighbouring squares share their corners.
+pub word-east : (s t : Place) → t .wy .0 ≡ s .wy .0 → t .wx .0 ≡ s .wx .0 + 1 → (word t ≡ wordsOf s .se) × (wordsOf t .nw ≡ wordsOf s .ne)
+word-east s t y x = (omega arith, omega arith)
+
+pub word-north : (s t : Place) → t .wy .0 ≡ s .wy .0 + 1 → t .wx .0 ≡ s .wx .0 → (word t ≡ wordsOf s .nw) × (wordsOf t .se ≡ wordsOf s .ne)
+word-north s t y x = (omega arith, omega arith)

@@ -1,27 +1,24 @@
 -- Demand 2, last sentence, of the clear verdict, and demand 3: what verdict, plan and row say of a path whose profile is given, in document 01's
--- letters and in the caller's own fields; and that beside a refusal all other room is 0. From the laws of the link, of the clear test and of the
--- plan. Assumes nothing.
-use mathlib.Core.Path.{_≡_, refl, _∙_, ap, subst}
+-- letters and in the caller's own fields. From the laws of the link, of the clear test and of the plan. Assumes nothing.
+use mathlib.Core.Path.{_≡_, refl, _∙_, subst}
 use mathlib.Core.Logic.{_↔_, _⊎_, inl, inr}
 use mathlib.Core.Bool.{true, false}
 use mathlib.Core.List.{List}
 use Prim.Native.Nat.{ℕ, _+_, _-_, _*_, _/_, _≤_, _<_}
-use native.Mathlib.Nat.{le-trans}
 use native.Mathlib.Omega.{arith}
 use lib.ListN.{getD}
-use lib.IntN.{pos, negsuc}
-use lib.Ieee.{binary64, fin, div, ofInt}
+use lib.IntN.{negsuc}
+use lib.Ieee.{fin, div, ofInt}
 use Rattle.ground.specs.Outcome.{Outcome, given, refused}
 use Rattle.ground.specs.declared.point.Point.{Point}
 use Rattle.terrain.specs.Engine.{metresOf}
 use Rattle.link.specs.Path.{Q, N, pathOf}
-use Rattle.link.specs.Profile.{Profile, Link, zeros, linked, profile, profileAnswer}
-use Rattle.link.specs.Clear.{roundedUp, T, G, need, clear, ofMasts, verdict, verdictAnswer}
+use Rattle.link.specs.Profile.{Profile, Link, linked, profile}
+use Rattle.link.specs.Clear.{roundedUp, T, G, need, clear, ofMasts, verdict}
 use Rattle.link.specs.Plan.{Best, NoPair, Demand3, planAnswer, Plan, Allowed}
-use Rattle.link.specs.Row.{share, ofSample, row, rowAnswer}
+use Rattle.link.specs.Row.{share, ofSample, row}
 use Rattle.link.specs.declared.plan.Masts.{Masts}
 use Rattle.link.specs.declared.plan.PlanAnswer.{PlanAnswer}
-use Rattle.link.specs.declared.row.Row.{Row}
 use Rattle.link.proofs.Laws.Clear.{clear-is, taller}
 use Rattle.link.proofs.Laws.Link.{WithinAsked, link-given}
 
@@ -59,12 +56,11 @@ module _ (file : List ℕ) (base zone : ℕ) (p q : Point) (pr : Profile) (e : p
   unfolding verdict
   verdict-given {a} {b} ha hb = simp (link-given file base zone (ofMasts p q a b) pr e (masts-within ha hb))
 
-  -- .. whatever the plan answers for two limits of 0 to 100 m is what demand 3 allows of that test: two masts beside refusal 0, with which the
-  -- verdict is clear, or refusal 9 alone; ..
+  -- .. whatever the plan answers for two limits of 0 to 100 m is what demand 3 allows of that test: two masts beside refusal 0, or
+  -- refusal 9 alone; ..
   pub record Meets (la lb : ℕ) (r : PlanAnswer) : Type 0 where
     pub refusal : (r .refusal ≡ 0) × (r .place ≡ 0)
     pub best : Best (clear link) la lb (record { first = r .first; second = r .second })
-    pub clears : verdict file base zone p q (r .first) (r .second) ≡ given true
 
   pub demand-3 : {la lb : ℕ} → la ≤ 100 → lb ≤ 100 → (r : PlanAnswer) → Plan (linked file base zone (ofMasts p q la lb)) la lb r
       → Meets la lb r ⊎ ((r ≡ record { refusal = 9; place = 0; first = 0; second = 0 }) × NoPair (clear link) la lb)
@@ -76,8 +72,7 @@ module _ (file : List ℕ) (base zone : ℕ) (p q : Point) (pr : Profile) (e : p
       go : (o : Outcome Masts) → Demand3 (clear link) la lb o → r ≡ planAnswer o
           → Meets la lb r ⊎ ((r ≡ record { refusal = 9; place = 0; first = 0; second = 0 }) × NoPair (clear link) la lb)
       go (given m) d i =
-          let clears = verdict-given (le-trans (d .pair .first) ha) (le-trans (d .pair .second) hb) ∙ ap given (d .pair .clear) in
-          inl (rw i (record { refusal = (refl, refl); best = d; clears = clears }))
+          inl (rw i (record { refusal = (refl, refl); best = d }))
       go (refused number place) d i = inr (i ∙ rw (d .0 .0, d .0 .1), d .1)
 
   -- .. and the row of each sample is given: its height in metres, and i divided by N.
@@ -90,22 +85,3 @@ module _ (file : List ℕ) (base zone : ℕ) (p q : Point) (pr : Profile) (e : p
 pub half-way : share 1 2 ≡ fin false 1 (negsuc 0)
 unfolding div ofInt
 half-way = refl
-
--- An answer shows what is given, beside refusal 0 and place 0; ..
-pub given-answers : (pr : Profile) (m : Masts) (r : Row) → (
-    (profileAnswer (given pr) ≡ record { refusal = 0; place = 0; n = pr .n; heights = pr .heights; codes = pr .codes })
-    × (verdictAnswer (given true) ≡ record { refusal = 0; place = 0; clear = 1 })
-    × (verdictAnswer (given false) ≡ record { refusal = 0; place = 0; clear = 0 })
-    × (planAnswer (given m) ≡ record { refusal = 0; place = 0; first = m .first; second = m .second })
-    × (rowAnswer (given r) ≡ record { refusal = 0; place = 0; height = r .height; share = r .share })
-    )
-given-answers pr m r = (refl, refl, refl, refl, refl)
-
--- .. beside a refusal, all other room is 0.
-pub refused-answers : (number place : ℕ) → (
-    (profileAnswer (refused number place) ≡ record { refusal = number; place = place; n = 0; heights = zeros; codes = zeros })
-    × (verdictAnswer (refused number place) ≡ record { refusal = number; place = place; clear = 0 })
-    × (planAnswer (refused number place) ≡ record { refusal = number; place = place; first = 0; second = 0 })
-    × (rowAnswer (refused number place) ≡ record { refusal = number; place = place; height = ofInt binary64 (pos 0); share = ofInt binary64 (pos 0) })
-    )
-refused-answers number place = (refl, refl, refl, refl)

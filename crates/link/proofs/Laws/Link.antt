@@ -1,14 +1,14 @@
 -- What is so of a link that a call was given: the file passed its check, the path was found on its ground, every sample was read and is in its
 -- place, and so no number of it is too large. From the laws of the path and of the profile. Assumes nothing.
-use mathlib.Core.Path.{_≡_, refl, sym, _∙_, ap}
-use mathlib.Core.Logic.{_↔_, _⊎_, ⊎-elim}
-use mathlib.Core.Bool.{true, false, _||_, or-true}
+use mathlib.Core.Path.{_≡_, refl, _∙_, ap}
+use mathlib.Core.Logic.{_↔_}
+use mathlib.Core.Bool.{true, false, _||_}
 use mathlib.Core.List.{List}
 use Prim.Native.Nat.{ℕ, _+_, _≤_, _<_}
 use native.Mathlib.Decide.{decLt}
 use native.Mathlib.Omega.{arith}
 use lib.Dec.{ltb}
-use borrow.Author.Tests.{ltb-false, le-ltb, lt-ltb, eq-eqb, ne-eqb}
+use borrow.Author.Tests.{ltb-false, le-ltb, ne-eqb}
 use Rattle.ground.specs.Outcome.{Outcome, given, refused, _andThen_}
 use Rattle.ground.specs.Ground.{groundOf, holds}
 use Rattle.ground.specs.declared.point.Point.{Point}
@@ -19,13 +19,13 @@ use Rattle.terrain.specs.Reading.{pointIn, reading}
 use Rattle.terrain.specs.declared.check.Terrain.{Terrain}
 use Rattle.terrain.specs.declared.reading.Reading.{Reading}
 use Rattle.terrain.proofs.Laws.Checked.{checked-is}
-use Rattle.link.specs.Path.{Q, N, pathOf, sample, tooShortOrLong, overAsked, pathOn}
+use Rattle.link.specs.Path.{Q, N, pathOf, sample, overAsked, pathOn}
 use Rattle.link.specs.Profile.{Profile, sampleOf, profileBy, Link, linkIn, linked, ofPath, profile}
 use Rattle.link.specs.Inside.{SoundLink}
 use Rattle.link.specs.declared.path.Path.{Path}
 use Rattle.link.specs.declared.path.Asked.{Asked}
-use Rattle.link.proofs.Laws.Path.{N-most, IsPath, path-is, path-sound}
-use Rattle.link.proofs.Laws.Profile.{Filled, filled, one-refused, all-read, read-within, north-most}
+use Rattle.link.proofs.Laws.Path.{IsPath, path-is, path-sound}
+use Rattle.link.proofs.Laws.Profile.{Filled, filled, all-read, read-within, north-most}
 
 -- what is asked is not too much
 pub record WithinAsked (n : ℕ) (asks : Asked) : Type 0 where
@@ -88,46 +88,7 @@ link-is file b z asks l e =
       sound = record { path = sound; heights = λ i. within i .0; codes = λ i. within i .1 };
     })
 
--- where the conditions of 7 and 8 hold
-is-short-or-long : (q : ℕ) → (q ≡ 0) ⊎ (10000000000 < q) → tooShortOrLong q ≡ true
-is-short-or-long q = ⊎-elim (λ e. simp (eq-eqb q 0 e)) (λ h. simp (lt-ltb 10000000000 q h, or-true))
-
-is-over : (n : ℕ) (asks : Asked) → (100 < asks .a) ⊎ ((100 < asks .b) ⊎ (n < asks .i)) → overAsked n (asks .a) (asks .b) (asks .i) ≡ true
-is-over n asks =
-    ⊎-elim (λ h. simp (lt-ltb 100 (asks .a) h)) (⊎-elim (λ h. simp (lt-ltb 100 (asks .b) h, or-true)) (λ h. simp (lt-ltb n (asks .i) h, or-true)))
-
--- Document 01's order of checks, for every call on a path: the file's refusals 1, 2, 3, ..
-pub file-refused : (file : List ℕ) (b z : ℕ) (asks : Asked) (number place : ℕ) → checked file b z ≡ refused number place
-    → linked file b z asks ≡ refused number place
-unfolding linked
-file-refused file b z asks number place c = simp c
-
-module _ (file : List ℕ) (b z : ℕ) (t : Terrain) (c : checked file b z ≡ given t) (asks : Asked) where
-  -- .. 4 for the first end, ..
-  pub refused-4-first : holds (t .ground) (asks .first) ≡ false → linked file b z asks ≡ refused 4 0
-  unfolding linked pathOn
-  refused-4-first first = simp (c, first)
-
-  -- .. 4 for the second, ..
-  pub refused-4-second : holds (t .ground) (asks .first) ≡ true → holds (t .ground) (asks .second) ≡ false → linked file b z asks ≡ refused 4 0
-  unfolding linked pathOn
-  refused-4-second first second = simp (c, first, second)
-
-  module _ (first : holds (t .ground) (asks .first) ≡ true) (second : holds (t .ground) (asks .second) ≡ true) where
-    -- .. 7, ..
-    pub refused-7 : (Q (asks .first) (asks .second) ≡ 0) ⊎ (10000000000 < Q (asks .first) (asks .second)) → linked file b z asks ≡ refused 7 0
-    unfolding linked pathOn
-    refused-7 q = simp (c, first, second, is-short-or-long (Q (asks .first) (asks .second)) q)
-
-    -- .. 8, ..
-    pub refused-8 : 1 ≤ Q (asks .first) (asks .second) → Q (asks .first) (asks .second) ≤ 10000000000
-        → (100 < asks .a) ⊎ ((100 < asks .b) ⊎ (N (Q (asks .first) (asks .second)) < asks .i)) → linked file b z asks ≡ refused 8 0
-    unfolding linked pathOn
-    refused-8 some most over =
-        let q = Q (asks .first) (asks .second) in
-        simp (c, first, second, ne-eqb q 0 (λ e. omega arith), le-ltb 10000000000 q most, is-over (N q) asks over)
-
--- .. then the samples. What a call asks besides, within its bounds, changes nothing: so its refusals are those of the profile, and verdict and row
+-- What a call asks besides the path, within its bounds, changes nothing: so its refusals are those of the profile, and verdict and row
 -- are given exactly where the whole profile is, and a plan is given, or refused with 9, exactly there.
 module _ (file : List ℕ) (b z : ℕ) (asks : Asked) where
   pub same-link : WithinAsked (N (Q (asks .first) (asks .second))) asks → linked file b z asks ≡ linked file b z (ofPath (asks .first) (asks .second))
@@ -156,7 +117,17 @@ profile-back : (w : Path) (o : Outcome Profile) → (o andThen (λ r. given (wit
 profile-back w (given r) = refl
 profile-back w (refused number place) = refl
 
--- Demand 2, last sentence, of the profile: in a file that passes the check, for two points of its zone and on its ground that are neither the
+-- Demand 2, last sentence, of the profile: one that is given has each sample's reading at its place and 0 at the others.
+pub profile-at : (file : List ℕ) (b z : ℕ) (p q : Point) (pr : Profile) → profile file b z p q ≡ given pr
+    → Filled (λ i. reading file b z (sample (pathOf p q) i)) (N (Q p q)) (N (Q p q) + 1) pr
+unfolding profile reading
+profile-at file b z p q pr e =
+    let s = step (linked file b z (ofPath p q)) (λ l. given (l .profile)) pr e in
+    let i = link-is file b z (ofPath p q) (s .value) (s .gave) in
+    let own : s .value .profile ≡ pr = cc (s .then) in
+    simp (i .checked) (rw (i .path .is, own) at (i .filled))
+
+-- In a file that passes the check, for two points of its zone and on its ground that are neither the
 -- same nor too far apart, ..
 module _ (file : List ℕ) (b z : ℕ) (t : Terrain) (c : checked file b z ≡ given t) (p q : Point)
     (hp : holds (groundOf b z) p ≡ true) (hq : holds (groundOf b z) q ≡ true) (some : 1 ≤ Q p q) (most : Q p q ≤ 10000000000) where
@@ -177,19 +148,9 @@ module _ (file : List ℕ) (b z : ℕ) (t : Terrain) (c : checked file b z ≡ g
       simp (c, g, hp, hq, some-way, le-ltb 10000000000 (w .q) most, le-ltb (w .n) 0 (omega arith))
       (profile-back w (profileBy (λ i. pointIn file t (sample w i)) (w .n)) ∙ λ k. profileBy (λ i. in-file (sample w i) k) (w .n))
 
-  -- .. the profile has each sample's reading at its place and 0 at the others, ..
-  pub profile-at : (pr : Profile) → profile file b z p q ≡ given pr → Filled reader (N (Q p q)) (N (Q p q) + 1) pr
-  profile-at pr e = filled reader (N (Q p q)) (N (Q p q) + 1) pr (omega (arith, N-most (Q p q) most)) (sym by-samples ∙ e)
-
-  -- .. is given exactly when every sample is read, ..
+  -- .. the profile is given exactly when every sample is read.
   pub profile-exactly : ((pr : Profile) × (profile file b z p q ≡ given pr)) ↔ ((i : ℕ) → i ≤ N (Q p q) → (r : Reading) × (reader i ≡ given r))
   profile-exactly = (
-    (λ x i l. (sampleOf (x .0) i, profile-at (x .0) (x .1) .at i (omega arith))),
+    (λ x i l. (sampleOf (x .0) i, profile-at file b z p q (x .0) (x .1) .at i (omega arith))),
     λ f. let r = all-read reader (N (Q p q)) (N (Q p q) + 1) (λ i l. f i (omega arith)) in (r .0, by-samples ∙ r .1),
   )
-
-  -- .. and else is refused as the first sample is that is not read, at that sample's number.
-  pub profile-refused : (i number place : ℕ) → i ≤ N (Q p q) → ((j : ℕ) → j < i → (r : Reading) × (reader j ≡ given r))
-      → reader i ≡ refused number place → profile file b z p q ≡ refused number i
-  profile-refused i number place h before e =
-      by-samples ∙ one-refused reader (N (Q p q)) h (all-read reader (N (Q p q)) i before .1) e

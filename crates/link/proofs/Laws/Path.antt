@@ -2,6 +2,7 @@
 -- ends and each lies between them; and what it means that a path was found. From the law of the first number at which a test holds.
 -- Assumes nothing.
 use mathlib.Core.Path.{_≡_, refl, sym, _∙_, ap}
+use mathlib.Core.Logic.{_⊎_, inl, inr}
 use mathlib.Core.Bool.{true, false, not}
 use Prim.Native.Nat.{ℕ, zero, suc, _+_, _-_, _*_, _≤_, _<_}
 use native.Mathlib.Nat.{
@@ -34,19 +35,24 @@ use Rattle.ground.specs.declared.point.Point.{Point}
 use Rattle.ground.proofs.Laws.Test.{neither}
 use Rattle.ground.proofs.Laws.Outcome.{past}
 use Rattle.ground.proofs.Laws.Ground.{held}
-use Rattle.link.specs.Path.{Q, N, line, along, sample, tooShortOrLong, overAsked, pathOf, pathOn}
+use Rattle.link.specs.Path.{apart, Q, N, line, along, sample, tooShortOrLong, overAsked, pathOf, pathOn}
 use Rattle.link.specs.Inside.{Near, Sound}
 use Rattle.link.specs.declared.path.Path.{Path}
 use Rattle.link.specs.declared.path.Asked.{Asked}
 use Rattle.link.proofs.Laws.First.{First, first-is, first-at-most}
 
+-- two numbers lie so far apart, one way or the other
+abbrev pub Apart : ℕ → ℕ → ℕ → Type 0
+Apart a b d = (a + d ≡ b) ⊎ (b + d ≡ a)
+
+apart-is : {a b d : ℕ} → Apart a b d → apart a b ≡ d
+apart-is (inl e) = omega arith
+apart-is (inr e) = omega arith
+
 -- Q is the sum of the squares of what the points are apart
-pub Q-is : (p q : Point) (dE dN : ℕ) → p .easting .0 + dE ≡ q .easting .0 → p .northing .0 + dN ≡ q .northing .0 → Q p q ≡ dE * dE + dN * dN
+pub Q-is : (p q : Point) (dE dN : ℕ) → Apart (p .easting .0) (q .easting .0) dE → Apart (p .northing .0) (q .northing .0) dN → Q p q ≡ dE * dE + dN * dN
 unfolding Q
-Q-is p q dE dN e n =
-    let east : p .easting .0 - q .easting .0 + (q .easting .0 - p .easting .0) ≡ dE = omega arith in
-    let north : p .northing .0 - q .northing .0 + (q .northing .0 - p .northing .0) ≡ dN = omega arith in
-    rw (east, north)
+Q-is p q dE dN e n = rw (apart-is e, apart-is n)
 
 -- the square of a distance between points on the ground
 pub square-most : {d : ℕ} → d ≤ 9331000 → d * d ≤ 87067561000000

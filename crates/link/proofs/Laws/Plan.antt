@@ -1,6 +1,7 @@
 -- Demand 3 allows one outcome, and the executable form of the plan is it: so an answer that demand 3 allows is the plan's. From the laws of the
 -- first number at which a test holds. Assumes nothing.
 use mathlib.Core.Path.{_≡_, refl, sym, _∙_, ap}
+use mathlib.Core.Logic.{_⊎_, inl, inr}
 use mathlib.Core.Bool.{Bool, _&&_, and-eq-true-iff}
 use mathlib.Core.List.{List}
 use Prim.Native.Nat.{ℕ, _+_, _-_, _≤_}
@@ -12,7 +13,7 @@ use Rattle.ground.specs.Outcome.{Outcome, given, refused, _andThen_}
 use Rattle.ground.specs.declared.point.Point.{Point}
 use Rattle.link.specs.Profile.{Link, linked}
 use Rattle.link.specs.Clear.{clear, ofMasts}
-use Rattle.link.specs.Plan.{Pair, Demand3, planAnswer, Plan, firstMast, leastSum, planOf, plan}
+use Rattle.link.specs.Plan.{Pair, Best, NoPair, Demand3, planAnswer, Plan, firstMast, leastSum, planOf, plan}
 use Rattle.link.specs.declared.plan.Masts.{Masts}
 use Rattle.link.specs.declared.plan.PlanAnswer.{PlanAnswer}
 use Rattle.link.proofs.Laws.First.{First, first-is, first-at-most}
@@ -73,6 +74,14 @@ module _ (clears : ℕ → ℕ → Bool) (la lb : ℕ) where
       go (no h) = rw (lt-ltb (la + lb) (leastSum clears la lb) (omega arith))
           ((refl, refl), λ a b p. omega (arith, sum-least a b p))
 
+  -- in other words, a best pair or none
+  pub planned : ((m : Masts) × ((planOf clears la lb ≡ given m) × Best clears la lb m)) ⊎ ((planOf clears la lb ≡ refused 9 0) × NoPair clears la lb)
+  planned = go (planOf clears la lb) plan-of-meets
+    where
+      go : (o : Outcome Masts) → Demand3 clears la lb o → ((m : Masts) × ((o ≡ given m) × Best clears la lb m)) ⊎ ((o ≡ refused 9 0) × NoPair clears la lb)
+      go (given m) d = inl (m, (refl, d))
+      go (refused number place) d = inr ((λ i. refused (d .0 .0 i) (d .0 .1 i)), d .1)
+
 -- an answer that is allowed is that of the executable form, so there is one
 answer-is : (o : Outcome Link) (la lb : ℕ) (r : PlanAnswer) → Plan o la lb r → r ≡ planAnswer (o andThen λ l. planOf (clear l) la lb)
 answer-is (given l) la lb r p =
@@ -82,7 +91,3 @@ answer-is (refused number place) la lb r e = e
 module _ (file : List ℕ) (base zone : ℕ) (p q : Point) (la lb : ℕ) where
   pub plan-is : (r : PlanAnswer) → Plan (linked file base zone (ofMasts p q la lb)) la lb r → r ≡ planAnswer (plan file base zone p q la lb)
   plan-is = answer-is (linked file base zone (ofMasts p q la lb)) la lb
-
-  pub plan-once : (r s : PlanAnswer) → Plan (linked file base zone (ofMasts p q la lb)) la lb r → Plan (linked file base zone (ofMasts p q la lb)) la lb s
-      → r ≡ s
-  plan-once r s f g = plan-is r f ∙ sym (plan-is s g)

@@ -3,13 +3,14 @@
 use mathlib.Core.Path.{_≡_, refl, sym, _∙_}
 use mathlib.Core.Bool.{Bool, true, false, not, not-eq-not, false≢true}
 use mathlib.Core.List.{List}
-use mathlib.Core.Logic.{_↔_, _⊎_, inl, ⊎-elim}
-use Prim.Native.Nat.{ℕ, zero, suc, _*_, _≤_, _<_}
+use mathlib.Core.Logic.{_↔_, _⊎_, inl, inr, ⊎-elim}
+use Prim.Native.Nat.{ℕ, zero, suc, _+_, _-_, _*_, _≤_, _<_}
 use native.Mathlib.Decide.{decLt}
 use native.Mathlib.Omega.{arith}
 use lib.Dec.{eqb·suc-zero}
-use lib.ListN.{length, length-take, length-drop}
-use borrow.Author.Tests.{eqb-false, not-true, not-false}
+use lib.ListN.{length, getD, drop, length-take, length-drop}
+use lib.Seq.{getD-take, getD-drop}
+use borrow.Author.Tests.{eqb-true, eqb-false, eq-eqb, not-true, not-false}
 use denote.Ref.{RefT}
 use Rattle.ground.specs.Outcome.{Outcome, given, refused, unless, _andThen_}
 use Rattle.ground.specs.Boundary.{rows, named}
@@ -21,7 +22,7 @@ use Rattle.ground.proofs.Laws.Boundary.{rows-28-29}
 use Rattle.ground.proofs.Laws.Outcome.{past, step}
 use Rattle.ground.proofs.Laws.Ground.{IsOpened, opened-is}
 use Rattle.ground.proofs.Laws.Place.{lies, word-within, number-within, weighs}
-use Rattle.terrain.specs.Bytes.{recordBytes}
+use Rattle.terrain.specs.Bytes.{recordStart, recordBytes}
 use Rattle.terrain.specs.Index.{position, highest, wholeRecords, indexPasses, Passes}
 use Rattle.terrain.specs.Check.{checked, Gave}
 use Rattle.terrain.specs.Record.{entry, covered, Taken, taken, takenBytes, Part}
@@ -78,6 +79,18 @@ covered-is file zero c = absurd (false≢true c)
 covered-is file (suc n) c =
     record { first = omega arith; entry = rw eqb·suc-zero; some = eqb-false _ _ (not-true _ (rw (eqb·suc-zero n) at c)) }
 
+-- rectangle n is not covered exactly if it is rectangle 0, which has no position, or its position holds 0
+pub not-covered : (file : List ℕ) (n : ℕ) → (covered file n ≡ false) ↔ ((n ≡ 0) ⊎ (position file n ≡ 0))
+unfolding entry
+not-covered file zero = ((λ e. inl refl), λ x. refl)
+not-covered file (suc n) =
+    rw eqb·suc-zero ((λ e. inr (eqb-true _ _ (not-false _ e))), ⊎-elim (λ e. absurd (omega arith)) (λ z. rw (eq-eqb (position file (suc n)) 0 z)))
+
+-- records are 1024 bytes, numbered from 1
+pub record-byte : (file : List ℕ) (r k : ℕ) → k < 1024 → getD (recordBytes file r) k 0 ≡ getD file (1024 * (r - 1) + k) 0
+unfolding recordBytes
+record-byte file r k h = getD-take 1024 (drop (1024 * (r - 1)) file) k 0 h ∙ getD-drop (1024 * (r - 1)) file k 0
+
 -- a record that lies in the file is 1024 bytes long, so that what is taken is empty exactly if the rectangle is not covered
 pub record-long : (file : List ℕ) (n : ℕ) → 1024 * entry file n ≤ length file → covered file n ≡ true
     → length (recordBytes file (entry file n)) ≡ 1024
@@ -86,7 +99,20 @@ record-long file n h c =
     let k = covered-is file n c in
     simp (length-take, length-drop) (omega arith)
 
+-- the record of a covered rectangle, and where a point of it lies
+abbrev pub takenAt : List ℕ → Place → Taken
+takenAt file s =
+    let r : ℕ = entry file (number (s .rectangle)) in
+    record { start = recordStart r; bytes = recordBytes file r; place = s }
+
 module _ (file : List ℕ) (s : Place) where
+  -- what is taken is that, and the rectangle is covered; ..
+  pub taken-is : (t : Taken) → taken file s ≡ given t → (covered file (number (s .rectangle)) ≡ true) × (t ≡ takenAt file s)
+  unfolding taken
+  taken-is t e =
+      let v = past (not (covered file (number (s .rectangle)))) 5 (given (takenAt file s)) t e in
+      (not-false _ (v .0), cc (v .1))
+
   pub uncovered : 1024 * entry file (number (s .rectangle)) ≤ length file → length (takenBytes (taken file s)) ≡ 0
       → covered file (number (s .rectangle)) ≡ false
   unfolding taken

@@ -11,10 +11,14 @@ use lib.Dec.{eqb·suc-zero}
 use borrow.Author.Tests.{eqb-true, eqb-false, eq-eqb, ne-eqb}
 use Rattle.ground.proofs.Laws.Test.{neither}
 use Rattle.terrain.specs.Bytes.{nth}
-use Rattle.terrain.specs.Corner.{elevationOf, corner, lacksHeight, anyLacksHeight, exactHeight}
+use Rattle.terrain.specs.Corner.{codeOf, elevationOf, corner, lacksHeight, anyLacksHeight, exactHeight}
 use Rattle.terrain.specs.Inside.{Each, Weighed}
 use Rattle.terrain.specs.declared.corner.Corner.{Corner}
 use Rattle.terrain.specs.declared.corner.Corners.{Corners}
+
+-- a word is 8192 x surface code + elevation
+pub word-is : (w : ℕ) → (8192 * codeOf w + elevationOf w ≡ w) × (elevationOf w ≤ 8191)
+word-is w = (omega arith, omega arith)
 
 module _ (bytes : List ℕ) (w : ℕ) where
   -- The corner at a word of a record: its weight is that given, ..

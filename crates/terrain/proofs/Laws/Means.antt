@@ -2,20 +2,18 @@
 -- call hands back is empty exactly where the call is refused. Assumes nothing.
 use mathlib.Core.Path.{_≡_, refl, sym, _∙_, ap}
 use mathlib.Core.Logic.{_↔_}
-use mathlib.Core.Bool.{cond, not}
+use mathlib.Core.Bool.{cond}
 use mathlib.Core.List.{List, []}
 use Prim.Native.Nat.{ℕ}
 use native.Mathlib.Omega.{arith}
 use lib.ListN.{length}
-use borrow.Author.Tests.{not-false}
 use denote.Ref.{RefT}
 use Rattle.ground.specs.Outcome.{Outcome, given, refused}
 use Rattle.ground.specs.Place.{number, located}
 use Rattle.ground.specs.declared.point.Point.{Point}
-use Rattle.ground.proofs.Laws.Outcome.{past, step}
-use Rattle.terrain.specs.Bytes.{recordStart, recordBytes}
+use Rattle.ground.proofs.Laws.Outcome.{step}
 use Rattle.terrain.specs.Check.{checked, checkedMeans}
-use Rattle.terrain.specs.Record.{entry, covered, Taken, taken, recordIn, recordFor, takenBytes, Part}
+use Rattle.terrain.specs.Record.{Taken, taken, recordIn, recordFor, takenBytes, Part}
 use Rattle.terrain.specs.Reading.{pointReadMeans}
 use Rattle.terrain.specs.Engine.{EngineValues, engineMeans}
 use Rattle.terrain.specs.declared.check.Checked.{Checked}
@@ -24,7 +22,7 @@ use Rattle.terrain.specs.declared.reading.PointRead.{PointRead}
 use Rattle.terrain.specs.declared.reading.PointRead.the-variants as read-cases
 use Rattle.terrain.specs.declared.engine.EnginePoint.{EnginePoint}
 use Rattle.terrain.specs.declared.engine.EnginePoint.the-variants as engine-cases
-use Rattle.terrain.proofs.Laws.Checked.{record-long, reaches}
+use Rattle.terrain.proofs.Laws.Checked.{taken-is, record-long, reaches}
 
 pub checked-once : (r s : Checked) → checkedMeans r ≡ checkedMeans s → r ≡ s
 checked-once (checked-cases.Passed t) (checked-cases.Passed u) e = cc
@@ -60,17 +58,13 @@ part-once f g = (f .bytes ∙ sym (g .bytes), (f .block ∙ sym (g .block), f .s
 module _ (file : List ℕ) (b z : ℕ) (p : Point) where
   -- a record that is handed back is 1024 bytes long ..
   pub record-given : (t : Taken) → recordFor file b z p ≡ given t → length (t .bytes) ≡ 1024
-  unfolding recordFor recordIn taken
+  unfolding recordFor recordIn
   record-given t e =
       let c = step (checked file b z) (λ u. recordIn file u p) t e in
       let l = step (located (c .value .ground) p) (taken file) t (c .then) in
-      let s = l .value in
-      let n = number (s .rectangle) in
-      let a : Taken = record { start = recordStart (entry file n); bytes = recordBytes file (entry file n); place = s } in
-      let v = past (not (covered file n)) 5 (given a) t (l .then) in
-      let i : t ≡ a = cc (v .1) in
+      let v = taken-is file (l .value) t (l .then) in
       let r = reaches p (record { base = b; zone = z; gave = c .gave }) (l .gave) in
-      rw i (record-long file n (r .recorded) (not-false (covered file n) (v .0)))
+      rw (v .1) (record-long file _ (r .recorded) (v .0))
 
   -- .. so the bytes are empty exactly where a refusal holds, 5 among them
   pub record-empty : (takenBytes (recordFor file b z p) ≡ []) ↔ ((t : Taken) → recordFor file b z p ≡ given t → ⊥)

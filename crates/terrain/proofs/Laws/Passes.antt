@@ -4,15 +4,14 @@ use mathlib.Core.Path.{_≡_, refl}
 use mathlib.Core.Logic.{_↔_, _⊎_, inl, inr, ⊎-elim}
 use mathlib.Core.Bool.{Bool, true, false, not, _&&_, and-eq-true-iff}
 use mathlib.Core.List.{List}
-use Prim.Native.Nat.{ℕ, _*_, _%_, _≤_, _<_}
+use Prim.Native.Nat.{ℕ, _*_, _≤_, _<_}
 use native.Mathlib.Omega.{arith}
 use lib.Dec.{leb, eqb}
-use lib.ListN.{length}
 use borrow.Author.Tests.{le-leb, eq-eqb, ne-eqb, eqb-true, eqb-false, leb-true, not-true}
 use Rattle.terrain.specs.Bytes.{records}
 use Rattle.terrain.specs.Index.{position, highest, wholeRecords, highestPasses, fresh, entryPasses, entriesPass, restEmpty, indexPasses, Passes}
 use Rattle.terrain.proofs.Laws.Every.{holds, holds-at}
-use Rattle.terrain.proofs.Laws.Index.{whole-is}
+use Rattle.terrain.proofs.Laws.Index.{whole-is, is-whole}
 
 -- a position that passes holds 0, or a number from 7 to M that no position before it holds
 pub record Entry (file : List ℕ) (M n : ℕ) : Type 0 where
@@ -74,11 +73,11 @@ passing file rows w h =
     }
 
 pub passes-is : (file : List ℕ) (rows : ℕ) → ((wholeRecords file ≡ true) × (indexPasses file rows ≡ true)) ↔ Passes file rows
-unfolding wholeRecords highestPasses indexPasses entriesPass restEmpty
+unfolding highestPasses indexPasses entriesPass restEmpty
 passes-is file rows = (
   (λ h. passing file rows (h .0) (h .1)),
   λ p. (
-    simp (eq-eqb (length file % 1024) 0 (omega arith), le-leb _ _ (p .whole .least), le-leb _ _ (p .whole .most)),
+    is-whole file (p .whole),
     simp (
       le-leb _ _ (p .lowestM),
       le-leb _ _ (p .highestM),

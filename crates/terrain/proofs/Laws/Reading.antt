@@ -3,13 +3,13 @@
 -- record, within its weighing corners. From the laws of a checked file, of the corners and of the vote. Assumes nothing.
 use mathlib.Core.Path.{_≡_, sym, _∙_}
 use mathlib.Core.Logic.{_↔_}
-use mathlib.Core.Bool.{true, false, not, cond}
+use mathlib.Core.Bool.{true, false, cond}
 use mathlib.Core.List.{List}
 use Prim.Native.Nat.{ℕ, _+_, _*_, _≤_, _<_}
 use native.Mathlib.Omega.{arith}
 use lib.Dec.{eqb}
 use lib.ListN.{length}
-use borrow.Author.Tests.{eqb-true, eq-eqb, not-false}
+use borrow.Author.Tests.{eqb-true, eq-eqb}
 use Rattle.ground.specs.Outcome.{given, _andThen_}
 use Rattle.ground.specs.Boundary.{rows}
 use Rattle.ground.specs.Ground.{groundOf, holds}
@@ -20,9 +20,9 @@ use Rattle.ground.specs.declared.place.Weights.{Weights}
 use Rattle.ground.specs.declared.point.Point.{Point}
 use Rattle.ground.proofs.Laws.Outcome.{past, step, assoc}
 use Rattle.ground.proofs.Laws.Place.{lies, number-within, weighs}
-use Rattle.terrain.specs.Bytes.{nth, recordStart, recordBytes}
+use Rattle.terrain.specs.Bytes.{nth, recordBytes}
 use Rattle.terrain.specs.Check.{checked}
-use Rattle.terrain.specs.Record.{entry, covered, Taken, taken, recordIn, recordFor}
+use Rattle.terrain.specs.Record.{entry, covered, taken, recordIn, recordFor}
 use Rattle.terrain.specs.Corner.{codeOf, elevationOf, corner, cornersAt, anyLacksHeight, exactHeight}
 use Rattle.terrain.specs.Vote.{sumFor, vote}
 use Rattle.terrain.specs.Reading.{readCorners, readTaken, pointIn, reading}
@@ -32,7 +32,7 @@ use Rattle.terrain.specs.declared.corner.Corner.{Corner}
 use Rattle.terrain.specs.declared.corner.Corners.{Corners}
 use Rattle.terrain.specs.declared.reading.Reading.{Reading}
 use Rattle.terrain.proofs.Laws.Corner.{corner-weight, corner-lacks, corner-part, lacks-none, corner-between, HeightWithin, height-within}
-use Rattle.terrain.proofs.Laws.Checked.{checked-is, record-past, record-in, record-long, own}
+use Rattle.terrain.proofs.Laws.Checked.{checked-is, taken-is, record-past, record-in, record-long, own}
 use Rattle.terrain.proofs.Laws.Vote.{Greatest, greatest-by, corner-for, vote-is}
 
 -- What is so of a corner's word and weight: if it weighs in, it has a height; if it weighs in, it lies between these elevations.
@@ -128,14 +128,11 @@ read-at file s h = simp (h .covered, heights-are (recordAt file s) (wordsOf s) (
 readable : (file : List ℕ) (s : Place) (r : Reading) → readAt file s ≡ given r → Readable file s × (r ≡ readingOf (cornersIn file s))
 unfolding readAt taken readCorners
 readable file s r e =
-    let n = number (s .rectangle) in
     let t = step (taken file s) readTaken r e in
-    let a : Taken = record { start = recordStart (entry file n); bytes = recordAt file s; place = s } in
-    let v = past (not (covered file n)) 5 (given a) (t .value) (t .gave) in
-    let i : t .value ≡ a = cc (v .1) in
+    let v = taken-is file s (t .value) (t .gave) in
     let c = cornersIn file s in
-    let h = past (anyLacksHeight c) 6 (given (readingOf c)) r (rw i at (t .then)) in (
-      record { covered = not-false _ (v .0); heights = heights-are (recordAt file s) (wordsOf s) (s .weights) .0 (h .0) },
+    let h = past (anyLacksHeight c) 6 (given (readingOf c)) r (rw (v .1) at (t .then)) in (
+      record { covered = v .0; heights = heights-are (recordAt file s) (wordsOf s) (s .weights) .0 (h .0) },
       (cc (h .1)),
     )
 

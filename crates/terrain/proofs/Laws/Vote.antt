@@ -2,7 +2,7 @@
 -- how the sums come about, one corner at a time, in a list with a place for each code. Assumes nothing.
 use mathlib.Core.Path.{_≡_, refl, sym, _∙_, ap}
 use mathlib.Core.Logic.{⊎-elim}
-use mathlib.Core.Bool.{Bool, true, false, cond}
+use mathlib.Core.Bool.{Bool, true, false, cond, and-eq-true-iff}
 use mathlib.Core.List.{List, [], _∷_}
 use Prim.Native.Nat.{ℕ, zero, suc, _+_, _≤_, _<_}
 use native.Mathlib.Nat.{le-refl, le-of-eq, eq-or-lt-of-le}
@@ -11,10 +11,11 @@ use native.Mathlib.Omega.{arith}
 use lib.Dec.{eqb, eqb·suc-zero}
 use lib.ListN.{length, getD, set, replicate, length-set, getD-replicate}
 use lib.Seq.{getD-set-same, getD-set-other}
-use borrow.Author.Tests.{lt-ltb, le-ltb, eqb-true, eqb-false}
+use borrow.Author.Tests.{lt-ltb, le-ltb, eqb-true, eqb-false, eq-eqb, ne-eqb}
 use Rattle.terrain.specs.Bytes.{nth}
 use Rattle.terrain.specs.Corner.{codeOf, corner}
 use Rattle.terrain.specs.Vote.{weightFor, sumFor, greatest, vote}
+use Rattle.terrain.specs.Inside.{Weighed, alike}
 use Rattle.terrain.specs.declared.corner.Corner.{Corner}
 use Rattle.terrain.specs.declared.corner.Corners.{Corners}
 
@@ -144,3 +145,29 @@ one-more {l} c h g e =
 pub counted-vote : {l : List ℕ} (c : Corners) → Counted l (c .ne ∷ c .nw ∷ c .se ∷ c .sw ∷ []) → greatest (λ code. getD l code 0) 7 ≡ vote c
 unfolding vote sumFor
 counted-vote {l} c g = greatest-only (greatest-by (λ code h. omega (arith, g .sums code h)) (greatest-is (λ code. getD l code 0) 7)) (vote-is c)
+
+-- And where the corners have one code, its sum is that of all weights and the others' is 0: so it is the vote.
+module _ (c : Corners) (w : Weighed c) (h : alike c ≡ true) where
+  alike-sum : (code : ℕ) → sumFor c code ≡ cond (eqb (c .sw .code) code) 250000 0
+  unfolding sumFor
+  alike-sum code =
+      let t = and-eq-true-iff _ _ .0 h in
+      let s = and-eq-true-iff _ _ .0 (t .0) in
+      let se = eqb-true (c .sw .code) (c .se .code) (s .0) in
+      let ne = eqb-true (c .nw .code) (c .ne .code) (s .1) in
+      let nw = eqb-true (c .sw .code) (c .nw .code) (t .1) in
+      rw (← ne, ← nw, ← se) (go (eqb (c .sw .code) code))
+    where
+      go : (b : Bool) → cond b (c .sw .weight) 0 + cond b (c .se .weight) 0 + cond b (c .nw .weight) 0 + cond b (c .ne .weight) 0 ≡ cond b 250000 0
+      go true = omega (arith, w .all)
+      go false = refl
+
+  pub alike-vote : c .sw .code ≡ vote c
+  alike-vote =
+      let own = alike-sum (c .sw .code) in
+      let all = rw (eq-eqb (c .sw .code) (c .sw .code) refl) at own in
+      greatest-only (record {
+        within = w .corners .sw .code;
+        most = λ k l. omega (arith, all, alike-sum k, at-most (eqb (c .sw .code) k) 250000);
+        tie = λ k l. omega (arith, all, rw (ne-eqb (c .sw .code) k (λ e. omega arith)) at (alike-sum k));
+      }) (vote-is c)

@@ -1,9 +1,8 @@
 -- `engine_row` meets its contract: the row of a sample of the link that was given. Assumes nothing.
-use mathlib.Core.Path.{_≡_, refl, sym}
+use mathlib.Core.Path.{sym}
 use native.Mathlib.Omega.{arith}
-use lib.IntN.{pos}
-use lib.Ieee.{binary64, ofInt, ofBits}
 use borrow.Author.Needs.{needs}
+use Rattle.terrain.proofs.Laws.Engine.{nought}
 use Rattle.link.specs.Profile.{zeros}
 use Rattle.link.specs.Row.{row}
 use Rattle.link.proofs.Laws.Link.{link-is}
@@ -37,11 +36,6 @@ unfolding row
 returns c =
     let at = c .before .before in
     simp (← (rw (at .path .given .1) at (at .before .before .link .ensures)), c .row-at .ensures)
-
--- the program's 0.0 is the double of 0
-nought : ofBits binary64 0 ≡ ofInt binary64 (pos 0)
-unfolding ofInt ofBits
-nought = refl
 
 returns-2 : tie.Need-returns-2
 unfolding row

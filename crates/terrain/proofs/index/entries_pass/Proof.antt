@@ -1,93 +1,139 @@
--- `entries_pass` meets its contract. The loop's invariant: the positions before n pass, and just the numbers that stand in them are marked.
--- Assumes nothing.
-use mathlib.Core.Path.{_≡_, sym}
-use mathlib.Core.Bool.{false}
-use Prim.Native.Nat.{_-_}
+-- `entries_pass` meets its contract. Both loops' invariant: the positions before n have been walked over. Assumes nothing.
+use mathlib.Core.Path.{_≡_, refl, sym, _∙_, ap}
+use mathlib.Core.Bool.{true}
+use Prim.Native.Nat.{_-_, _≤_}
 use native.Mathlib.Omega.{arith}
 use borrow.Author.Needs.{needs}
-use Rattle.terrain.specs.Index.{entryPasses, entriesPass}
-use Rattle.terrain.proofs.Laws.Index.{Walked, walk-none, walk-empty, walk-one, entries-fail, above-fails, below-fails, marked-fails}
+use borrow.Author.Tests.{not-true, not-false}
+use Rattle.terrain.specs.Inside.{Walked, FourRecords, NumberAt}
+use Rattle.terrain.specs.declared.marks.Four.{Four}
+use Rattle.terrain.proofs.Laws.Index.{walk-none, walk-empty}
+use Rattle.terrain.proofs.Laws.Marks.{four-records, record-most}
 use Rattle.terrain.proofs.index.entries_pass.Statement.{statement}
 use Rattle.terrain.proofs.index.entries_pass.Tie as tie
 
 abbrev Inv-loop : tie.InvT-loop
-Inv-loop file highest end marks₀ n₀ marks n = Walked file highest end marks n
+Inv-loop file highest end marks₀ n₀ marks n = Walked file highest marks n × (n ≤ end)
 
 abbrev μ-loop : tie.MeasureT-loop
 μ-loop file highest end marks₀ n₀ marks n = end - n
 
-loop-holds : tie.Need-loop-holds Inv-loop μ-loop
-loop-holds c = walk-none (c .before .pre .0)
+abbrev Inv-loop2 : tie.InvT-loop2
+Inv-loop2 file highest end marks₀ n₀ marks n = Walked file highest marks n × (n ≤ end)
 
-nth-requires : tie.Need-nth-requires Inv-loop μ-loop
-nth-requires c κs = search needs
+abbrev μ-loop2 : tie.MeasureT-loop2
+μ-loop2 file highest end marks₀ n₀ marks n = end - n
 
-cast-entry : tie.Need-cast-entry Inv-loop μ-loop
-cast-entry c = search needs
-
--- a position that does not pass
-refused : (c : tie.In-loop Inv-loop μ-loop) → (
-    let a = c .before .before .before .args in
-    entryPasses (a .file .now) (a .highest) (c .before .loop .n) ≡ false → false ≡ entriesPass (a .file .now) (a .highest) (a .end)
+-- four numbers of records, in their positions
+four : (c : tie.After-are-records Inv-loop μ-loop Inv-loop2 μ-loop2) → c .are-records .result ≡ true → (
+    let a = c .before .before .before .before .before .args in
+    FourRecords (c .before .four-at .result) (a .file .now) (a .highest) (c .before .before .before .loop .n)
     )
-refused c e = sym (entries-fail (c .before .loop .inv) (c .loop-test .taken) e)
+four c e = four-records _ _ _ _ (c .before .four-at .ensures) (sym (c .are-records .ensures) ∙ e)
 
-returns : tie.Need-returns Inv-loop μ-loop
-returns c = refused (c .before .before) (above-fails _ _ _ (omega arith))
+-- the first of four numbers, whatever it is
+number : (c : tie.After-four-at Inv-loop μ-loop Inv-loop2 μ-loop2) → (
+    let a = c .before .before .before .before .args in
+    NumberAt (c .four-at .result .first) (a .highest) (a .file .now) (a .highest) (c .before .before .loop .n)
+    )
+number c = (ap (λ (f : Four). f .first) (c .four-at .ensures), refl)
 
-returns-2 : tie.Need-returns-2 Inv-loop μ-loop
-returns-2 c = refused (c .before .before .before .before) (below-fails _ _ _ (omega arith) (omega arith))
+loop-holds : tie.Need-loop-holds Inv-loop μ-loop Inv-loop2 μ-loop2
+loop-holds c = (walk-none (c .before .pre .1 .1 .1), c .before .pre .0)
 
-add-next-entry : tie.Need-add-next-entry Inv-loop μ-loop
-add-next-entry c = search needs
+add-loop : tie.Need-add-loop Inv-loop μ-loop Inv-loop2 μ-loop2
+add-loop c = search needs
 
-next-entry-requires : tie.Need-next-entry-requires Inv-loop μ-loop
-next-entry-requires c κs = search needs
+four-at-requires : tie.Need-four-at-requires Inv-loop μ-loop Inv-loop2 μ-loop2
+four-at-requires c κs = search needs
 
-loop-less : tie.Need-loop-less Inv-loop μ-loop
-loop-less c = search needs
+are-records-requires : tie.Need-are-records-requires Inv-loop μ-loop Inv-loop2 μ-loop2
+are-records-requires c κs = search needs
 
-loop-again : tie.Need-loop-again Inv-loop μ-loop
-loop-again c =
-    let entry = c .before .before .before .before in
-    walk-empty (entry .before .before .loop .inv) (omega arith) (c .next-entry .ensures .skipped)
+mark-four-requires : tie.Need-mark-four-requires Inv-loop μ-loop Inv-loop2 μ-loop2
+mark-four-requires c κs =
+    let at = c .before .before in
+    let f = four at (c .before .if1 .taken) in
+    let most = at .before .before .before .loop .inv .0 .most in
+    ((record-most _ _ most (f .0 .1), record-most _ _ most (f .1 .1)), (record-most _ _ most (f .2 .1), record-most _ _ most (f .3 .1)))
 
-array-read-if4 : tie.Need-array-read-if4 Inv-loop μ-loop
-array-read-if4 c = search needs
+returns : tie.Need-returns Inv-loop μ-loop Inv-loop2 μ-loop2
+returns c =
+    let at = c .before .before .before in
+    let w = at .before .before .before .before .loop .inv .0 in
+    sym (c .before .mark-four .ensures .stops w (four (at .before) (at .if1 .taken)) (not-true _ (c .if2 .taken)) _ (omega arith))
 
-returns-3 : tie.Need-returns-3 Inv-loop μ-loop
-returns-3 c =
-    let entry = c .before .before .before in
-    refused
-    (entry .before)
-    (marked-fails (entry .before .before .loop .inv) (entry .nth .ensures) (omega arith) (omega arith) (c .if4 .taken))
-
-array-write-marks : tie.Need-array-write-marks Inv-loop μ-loop
-array-write-marks c = search needs
-
-add-n : tie.Need-add-n Inv-loop μ-loop
+add-n : tie.Need-add-n Inv-loop μ-loop Inv-loop2 μ-loop2
 add-n c = search needs
 
-loop-less-2 : tie.Need-loop-less-2 Inv-loop μ-loop
+loop-less : tie.Need-loop-less Inv-loop μ-loop Inv-loop2 μ-loop2
+loop-less c = search needs
+
+loop-again : tie.Need-loop-again Inv-loop μ-loop Inv-loop2 μ-loop2
+loop-again c =
+    let at = c .before .before .before in
+    let w = at .before .before .before .before .loop .inv .0 in
+    (c .before .mark-four .ensures .goes w (four (at .before) (at .if1 .taken)) (not-false _ (c .if2 .left)), omega arith)
+
+mark-one-requires : tie.Need-mark-one-requires Inv-loop μ-loop Inv-loop2 μ-loop2
+mark-one-requires c κs = search needs
+
+returns-2 : tie.Need-returns-2 Inv-loop μ-loop Inv-loop2 μ-loop2
+returns-2 c =
+    let at = c .before .before .before .before .before in
+    sym (c .before .mark-one .ensures .stops (at .before .before .loop .inv .0) (number at) (not-true _ (c .if3 .taken)) _ (omega arith))
+
+add-past-fours : tie.Need-add-past-fours Inv-loop μ-loop Inv-loop2 μ-loop2
+add-past-fours c = search needs
+
+past-fours-requires : tie.Need-past-fours-requires Inv-loop μ-loop Inv-loop2 μ-loop2
+past-fours-requires c κs = search needs
+
+loop-less-2 : tie.Need-loop-less-2 Inv-loop μ-loop Inv-loop2 μ-loop2
 loop-less-2 c = search needs
 
-loop-again-2 : tie.Need-loop-again-2 Inv-loop μ-loop
+loop-again-2 : tie.Need-loop-again-2 Inv-loop μ-loop Inv-loop2 μ-loop2
 loop-again-2 c =
-    let entry = c .before .before .before in
-    walk-one
-    (entry .before .before .loop .inv)
-    (omega arith)
-    (entry .nth .ensures)
-    (omega arith)
-    (omega arith)
-    (omega arith)
-    (c .if4 .left)
+    let one = c .before .before in
+    let at = one .before .before .before .before in
+    let w = one .mark-one .ensures .goes (at .before .before .loop .inv .0) (number at) (not-false _ (c .before .if3 .left)) in
+    (walk-empty w (c .past-fours .ensures), c .past-fours .ensures .last)
 
-returns-4 : tie.Need-returns-4 Inv-loop μ-loop
+loop2-holds : tie.Need-loop2-holds Inv-loop μ-loop Inv-loop2 μ-loop2
+loop2-holds c = search needs
+
+nth-requires : tie.Need-nth-requires Inv-loop μ-loop Inv-loop2 μ-loop2
+nth-requires c κs = search needs
+
+cast-mark-one : tie.Need-cast-mark-one Inv-loop μ-loop Inv-loop2 μ-loop2
+cast-mark-one c = search needs
+
+mark-one-requires-2 : tie.Need-mark-one-requires-2 Inv-loop μ-loop Inv-loop2 μ-loop2
+mark-one-requires-2 c κs = search needs
+
+returns-3 : tie.Need-returns-3 Inv-loop μ-loop Inv-loop2 μ-loop2
+returns-3 c =
+    let one = c .before in
+    let at = one .before .before in
+    sym (one .mark-one2 .ensures .stops (at .before .before .loop2 .inv .0) (at .nth .ensures, refl) (not-true _ (c .if4 .taken)) _ (omega arith))
+
+add-n-2 : tie.Need-add-n-2 Inv-loop μ-loop Inv-loop2 μ-loop2
+add-n-2 c = search needs
+
+loop2-less : tie.Need-loop2-less Inv-loop μ-loop Inv-loop2 μ-loop2
+loop2-less c = search needs
+
+loop2-again : tie.Need-loop2-again Inv-loop μ-loop Inv-loop2 μ-loop2
+loop2-again c =
+    let one = c .before in
+    let at = one .before .before in
+    (one .mark-one2 .ensures .goes (at .before .before .loop2 .inv .0) (at .nth .ensures, refl) (not-false _ (c .if4 .left)), omega arith)
+
+returns-4 : tie.Need-returns-4 Inv-loop μ-loop Inv-loop2 μ-loop2
 returns-4 c =
-    let w = c .before .loop .inv in
-    let e : c .before .loop .n ≡ c .before .before .before .args .end = omega arith in
-    sym (rw e at (w .passed))
+    let at = c .before in
+    let e : at .loop2 .n ≡ at .before .before .before .before .args .end = omega arith in
+    sym (rw e at (at .loop2 .inv .0 .passed))
 
 pub entries-pass-spec : {M : Type 1} → statement M
 entries-pass-spec =
@@ -95,19 +141,29 @@ entries-pass-spec =
     (tie.spec
     Inv-loop
     μ-loop
+    Inv-loop2
+    μ-loop2
     loop-holds
-    nth-requires
-    cast-entry
+    add-loop
+    four-at-requires
+    are-records-requires
+    mark-four-requires
     returns
-    returns-2
-    add-next-entry
-    next-entry-requires
+    add-n
     loop-less
     loop-again
-    array-read-if4
-    returns-3
-    array-write-marks
-    add-n
+    mark-one-requires
+    returns-2
+    add-past-fours
+    past-fours-requires
     loop-less-2
     loop-again-2
+    loop2-holds
+    nth-requires
+    cast-mark-one
+    mark-one-requires-2
+    returns-3
+    add-n-2
+    loop2-less
+    loop2-again
     returns-4)

@@ -1,0 +1,397 @@
+/* Asks the library and plain C the same questions about two made files.
+ *   bench same                     compares all answers of the two over many questions, also about damaged files; exit 1 on a difference
+ *   bench CALL SIDE FILE TIMES     makes the file, asks the call TIMES times, and prints its answer
+ * CALL is check, read, profile, verdict, plan or plan_none; SIDE is library, plain or every_pair; FILE is hundred or all. */
+#include "plain.h"
+
+#include <stdbool.h>
+#include <stdio.h>
+#include <stdlib.h>
+#include <string.h>
+
+#define RECORD 1024u
+#define BASE 40u
+#define ZONE 17u
+#define WEST 125000u
+#define SOUTH 4433000u
+#define ROWS 28u
+#define COLUMNS 100u
+#define VALLEY 460u
+
+/* The hundred records of the smaller file cover ten columns and ten rows of rectangles from these on. */
+#define BAND_COLUMN 40u
+#define BAND_ROW 10u
+#define BAND 10u
+
+/* The calls of one side. */
+struct side {
+    const char *name;
+    struct janlishuk_check_answer (*check)(const uint8_t *, size_t, uint32_t, uint32_t);
+    struct janlishuk_read_answer (*read)(const uint8_t *, size_t, uint32_t, uint32_t, struct janlishuk_point);
+    struct janlishuk_profile_answer (*profile)(const uint8_t *, size_t, uint32_t, uint32_t, struct janlishuk_point, struct janlishuk_point);
+    struct janlishuk_verdict_answer (*verdict)(const uint8_t *, size_t, uint32_t, uint32_t, struct janlishuk_point, struct janlishuk_point,
+                                               uint32_t, uint32_t);
+    struct janlishuk_plan_answer (*plan)(const uint8_t *, size_t, uint32_t, uint32_t, struct janlishuk_point, struct janlishuk_point,
+                                         uint32_t, uint32_t);
+};
+
+static const struct side sides[] = {
+    {"library", janlishuk_check, janlishuk_read, janlishuk_profile, janlishuk_verdict, janlishuk_plan},
+    {"plain", plain_check, plain_read, plain_profile, plain_verdict, plain_plan},
+    {"every_pair", plain_check, plain_read, plain_profile, plain_verdict, plain_plan_every_pair},
+};
+
+/* A question: what a call is given. The masts are limits to a plan. */
+struct question {
+    const uint8_t *file;
+    size_t length;
+    uint32_t base;
+    uint32_t zone;
+    struct janlishuk_point first;
+    struct janlishuk_point second;
+    uint32_t a;
+    uint32_t b;
+};
+
+/* Room for the longest file that is not refused. */
+static _Alignas(4096) uint8_t file[4096 * RECORD];
+
+/* A triangle wave of the given period from 0 up to half the period and down again. */
+static uint32_t wave(uint32_t at, uint32_t period)
+{
+    uint32_t phase = at % period;
+    return phase < period - phase ? phase : period - phase;
+}
+
+/* The elevation at a word, by its units east and north of the ground's corner: hills in a valley, across which there may be a ridge. */
+static uint32_t elevation(uint32_t x, uint32_t y, bool ridge)
+{
+    uint32_t off = y < VALLEY ? VALLEY - y : y - VALLEY;
+    uint32_t valley = off < 100 ? off * off / 50 : 200;
+    return 100 + valley + wave(x, 34) + wave(y, 46) / 2 + (ridge && off < 2 ? 600 : 0);
+}
+
+/* The surface code at a word, in patches. */
+static uint32_t surface(uint32_t x, uint32_t y)
+{
+    return (x / 6 + 3 * (y / 9)) % 8;
+}
+
+/* Puts a number at a place of the file, high byte first. */
+static void put(size_t at, uint32_t number)
+{
+    file[at] = (uint8_t)(number >> 8);
+    file[at + 1] = (uint8_t)number;
+}
+
+/* Puts a number into position n of the index. */
+static void put_position(uint32_t n, uint32_t number)
+{
+    put(2 * (n - 1), number);
+}
+
+/* Writes the words of a rectangle into a record. */
+static void put_record(uint32_t record, uint32_t column, uint32_t row, bool ridge)
+{
+    size_t at = RECORD * (record - 1);
+    for (uint32_t y = 31 * row; y < 31 * row + 32; y++) {
+        for (uint32_t x = 15 * column; x < 15 * column + 16; x++, at += 2)
+            put(at, 8192 * surface(x, y) + elevation(x, y, ridge));
+    }
+}
+
+/* Makes a file of the band alone or of every rectangle but 0, whose records are in no order, and answers its length. */
+static size_t make_file(bool all, bool ridge)
+{
+    uint32_t records = all ? COLUMNS * ROWS - 1 : BAND * BAND;
+    uint32_t covered = 0;
+    memset(file, 0, 6 * RECORD);
+    for (uint32_t n = 1; n < COLUMNS * ROWS; n++) {
+        uint32_t column = n % COLUMNS, row = n / COLUMNS;
+        if (!all && (column - BAND_COLUMN >= BAND || row - BAND_ROW >= BAND))
+            continue;
+        uint32_t record = 7 + 1009 * covered % records;
+        covered++;
+        put_position(n, record);
+        put_record(record, column, row, ridge);
+    }
+    put_position(3072, 6 + records);
+    return RECORD * (6 + records);
+}
+
+/* The question that is measured: a path of 200 steps with masts or mast limits of 100. */
+static struct question long_path(size_t length)
+{
+    struct janlishuk_point first = {ZONE, WEST + 307123, SOUTH + 190377};
+    struct janlishuk_point second = {ZONE, first.easting + 60001, first.northing + 79999};
+    return (struct question){file, length, BASE, ZONE, first, second, 100, 100};
+}
+
+/* Asks for a check. Here and below the answer's alignment fixes that of the stack, on which the cost of clearing memory depends. */
+static void ask_check(const struct side *side, const struct question *q, unsigned long times)
+{
+    _Alignas(4096) struct janlishuk_check_answer answer = {0};
+    while (times-- > 0)
+        answer = side->check(q->file, q->length, q->base, q->zone);
+    printf("refusal %u highest %u\n", answer.refusal, answer.highest);
+}
+
+/* Asks for a reading. */
+static void ask_read(const struct side *side, const struct question *q, unsigned long times)
+{
+    _Alignas(4096) struct janlishuk_read_answer answer = {0};
+    while (times-- > 0)
+        answer = side->read(q->file, q->length, q->base, q->zone, q->first);
+    printf("refusal %u height %u code %u\n", answer.refusal, answer.height, answer.code);
+}
+
+/* Asks for a profile. */
+static void ask_profile(const struct side *side, const struct question *q, unsigned long times)
+{
+    _Alignas(4096) struct janlishuk_profile_answer answer = {0};
+    while (times-- > 0)
+        answer = side->profile(q->file, q->length, q->base, q->zone, q->first, q->second);
+    uint64_t heights = 0, codes = 0;
+    for (int i = 0; i < JANLISHUK_ROOM; i++) {
+        heights += answer.heights[i];
+        codes += answer.codes[i];
+    }
+    printf("refusal %u n %u heights %llu codes %llu\n", answer.refusal, answer.n, (unsigned long long)heights, (unsigned long long)codes);
+}
+
+/* Asks for a verdict. */
+static void ask_verdict(const struct side *side, const struct question *q, unsigned long times)
+{
+    _Alignas(4096) struct janlishuk_verdict_answer answer = {0};
+    while (times-- > 0)
+        answer = side->verdict(q->file, q->length, q->base, q->zone, q->first, q->second, q->a, q->b);
+    printf("refusal %u clear %u\n", answer.refusal, answer.clear);
+}
+
+/* Asks for a plan. */
+static void ask_plan(const struct side *side, const struct question *q, unsigned long times)
+{
+    _Alignas(4096) struct janlishuk_plan_answer answer = {0};
+    while (times-- > 0)
+        answer = side->plan(q->file, q->length, q->base, q->zone, q->first, q->second, q->a, q->b);
+    printf("refusal %u first %u second %u\n", answer.refusal, answer.first, answer.second);
+}
+
+/* All five answers to a question. */
+struct answers {
+    struct janlishuk_check_answer check;
+    struct janlishuk_read_answer read;
+    struct janlishuk_profile_answer profile;
+    struct janlishuk_verdict_answer verdict;
+    struct janlishuk_plan_answer plan;
+};
+
+/* Asks one side all five calls. */
+static void ask_all(const struct side *side, const struct question *q, struct answers *answers)
+{
+    answers->check = side->check(q->file, q->length, q->base, q->zone);
+    answers->read = side->read(q->file, q->length, q->base, q->zone, q->first);
+    answers->profile = side->profile(q->file, q->length, q->base, q->zone, q->first, q->second);
+    answers->verdict = side->verdict(q->file, q->length, q->base, q->zone, q->first, q->second, q->a, q->b);
+    answers->plan = side->plan(q->file, q->length, q->base, q->zone, q->first, q->second, q->a, q->b);
+}
+
+/* Whether two profiles are equal in every field. */
+static bool equal_profiles(const struct janlishuk_profile_answer *p, const struct janlishuk_profile_answer *q)
+{
+    return p->refusal == q->refusal && p->place == q->place && p->n == q->n && memcmp(p->heights, q->heights, sizeof p->heights) == 0 &&
+           memcmp(p->codes, q->codes, sizeof p->codes) == 0;
+}
+
+/* Whether all five answers are equal in every field; those other than the profile have no gaps between their fields. */
+static bool equal_answers(const struct answers *p, const struct answers *q)
+{
+    return memcmp(&p->check, &q->check, sizeof p->check) == 0 && memcmp(&p->read, &q->read, sizeof p->read) == 0 &&
+           equal_profiles(&p->profile, &q->profile) && memcmp(&p->verdict, &q->verdict, sizeof p->verdict) == 0 &&
+           memcmp(&p->plan, &q->plan, sizeof p->plan) == 0;
+}
+
+/* How many questions were compared, by the refusal of their plan. */
+static unsigned long compared[10];
+
+/* Compares the answers of all sides to a question, ends the program where they differ, and else answers the plan. */
+static struct janlishuk_plan_answer compare(const struct question *q)
+{
+    struct answers library, other;
+    ask_all(&sides[0], q, &library);
+    for (int k = 1; k < 3; k++) {
+        ask_all(&sides[k], q, &other);
+        if (equal_answers(&library, &other))
+            continue;
+        printf("library and %s differ: length %zu base %u zone %u, zone %u %u %u to zone %u %u %u, masts %u %u\n", sides[k].name, q->length,
+               q->base, q->zone, q->first.zone, q->first.easting, q->first.northing, q->second.zone, q->second.easting, q->second.northing,
+               q->a, q->b);
+        exit(1);
+    }
+    compared[library.plan.refusal]++;
+    return library.plan;
+}
+
+/* The next of a fixed sequence of numbers below a bound. */
+static uint32_t some(uint32_t bound)
+{
+    static uint32_t state = 2463534242u;
+    state ^= state << 13;
+    state ^= state >> 17;
+    state ^= state << 5;
+    return state % bound;
+}
+
+/* A point on or near the band, or somewhere on or near the ground; often on a grid line, seldom of another zone. */
+static struct janlishuk_point some_point(uint32_t base)
+{
+    uint32_t south = 500 * 31 * (7 * base + (1000 + (246 + base) * base) / 2000);
+    struct janlishuk_point point = {some(50) == 0 ? ZONE + 1 : ZONE, WEST - 2000, south - (south < 2000 ? 0 : 2000)};
+    if (some(8) == 0) {
+        point.easting += some(754000);
+        point.northing += some(454000);
+    } else {
+        point.easting += 7500 * BAND_COLUMN + some(79000);
+        point.northing += 15500 * BAND_ROW + some(159000);
+    }
+    point.easting -= some(4) == 0 ? point.easting % 500 : 0;
+    point.northing -= some(4) == 0 ? point.northing % 500 : 0;
+    return point;
+}
+
+/* A question about the file: of its base or another, a path of some length and direction, and masts up to and above 100. */
+static struct question some_question(size_t length)
+{
+    static const uint32_t reaches[] = {0, 300, 500, 1000, 1500, 2000, 20000, 60000, 80000, 100000};
+    struct question q = {file, length, some(4) == 0 ? 4 * some(21) : BASE, ZONE, {0}, {0}, some(105), some(105)};
+    uint32_t reach = reaches[some(10)];
+    q.first = some_point(q.base);
+    q.second = q.first;
+    q.second.zone = some(50) == 0 ? ZONE + 1 : ZONE;
+    if (some(3) == 0) {
+        q.second.easting += reach / 5 * 3;
+        q.second.northing -= reach / 5 * 4;
+    } else {
+        q.second.easting += some(2 * reach + 1) - reach;
+        q.second.northing += some(2 * reach + 1) - reach;
+    }
+    return q;
+}
+
+/* Gives every word of the file's records some other elevation, seldom none. */
+static void roughen(size_t length)
+{
+    for (size_t at = 6 * RECORD; at < length; at += 2)
+        put(at, 8192 * some(8) + (some(2000) == 0 ? 8191 : some(60)));
+}
+
+/* Damages the file's index: some position, often at an end of the covered ones, gets a number, often one at an end of those allowed. */
+static void damage_index(uint32_t highest)
+{
+    const uint32_t places[] = {1, 100 * ROWS - 1, 100 * ROWS, 3071, 3072, 1 + some(3072), 1 + some(3072), 100 * BAND_ROW + BAND_COLUMN};
+    const uint32_t numbers[] = {0, 1, 6, 7, highest, highest + 1, some(65536), 7 + some(100)};
+    put_position(places[some(8)], numbers[some(8)]);
+}
+
+/* Damages a file or what is said of it, or takes heights or covered rectangles away. */
+static void damage(struct question *q)
+{
+    const size_t lengths[] = {0, 5 * RECORD, q->length - 1, q->length + 1, q->length - RECORD, 4096 * RECORD, 4097 * RECORD, 6 * RECORD};
+    uint32_t highest = (uint32_t)(q->length / RECORD);
+    switch (some(10)) {
+    case 0:
+        q->length = lengths[some(8)];
+        break;
+    case 1:
+        q->base = some(90);
+        break;
+    case 2:
+        q->zone = some(63);
+        break;
+    case 3:
+        for (uint32_t k = some(9); k > 0; k--)
+            put_position(100 * (BAND_ROW + some(BAND)) + BAND_COLUMN + some(BAND), 0);
+        break;
+    case 4:
+        for (uint32_t k = some(400); k > 0; k--)
+            put(6 * RECORD + 2 * some(512 * (highest - 6)), 8192 * some(8) + 8191);
+        break;
+    case 5:
+        memset(file, 0, 6 * RECORD);
+        put_position(3072, 5 + some(3));
+        break;
+    default:
+        damage_index(highest);
+    }
+}
+
+/* Compares the sides at questions about whole, damaged and rough files, of these also at the planned masts, which are on the edge of
+ * clear. Answers 1 unless every refusal was met. */
+static int same(void)
+{
+    for (int kind = 0; kind < 4; kind++) {
+        size_t length = make_file(kind & 1, kind & 2);
+        struct question q = long_path(length);
+        compare(&q);
+        for (int k = 0; k < 100; k++) {
+            q = some_question(length);
+            compare(&q);
+        }
+    }
+    for (int k = 0; k < 4000; k++) {
+        size_t length = make_file(k % 500 == 0, k % 8 == 1);
+        struct question q = some_question(length);
+        damage(&q);
+        compare(&q);
+    }
+    size_t length = make_file(false, false);
+    for (int k = 0; k < 8000; k++) {
+        if (k % 100 == 0)
+            roughen(length);
+        struct question q = some_question(length);
+        struct janlishuk_plan_answer plan = compare(&q);
+        q.a = plan.first;
+        q.b = plan.second;
+        compare(&q);
+    }
+    printf("library and plain C answer the same; questions by refusal 0 to 9:");
+    bool every = true;
+    for (int refusal = 0; refusal < 10; refusal++) {
+        printf(" %lu", compared[refusal]);
+        every = every && compared[refusal] > 0;
+    }
+    printf("%s\n", every ? "" : ", not all of them met");
+    return every ? 0 : 1;
+}
+
+/* A call of the measured ones, by its name; plan_none is asked of a file with a ridge. */
+struct call {
+    const char *name;
+    void (*ask)(const struct side *side, const struct question *q, unsigned long times);
+    bool ridge;
+};
+
+static const struct call calls[] = {
+    {"check", ask_check, false},     {"read", ask_read, false}, {"profile", ask_profile, false},
+    {"verdict", ask_verdict, false}, {"plan", ask_plan, false}, {"plan_none", ask_plan, true},
+};
+
+/* Asks what the arguments name; 2 where they name nothing. */
+int main(int argc, char **argv)
+{
+    if (argc == 2 && strcmp(argv[1], "same") == 0)
+        return same();
+    bool all = argc == 5 && strcmp(argv[3], "all") == 0;
+    bool named = all || (argc == 5 && strcmp(argv[3], "hundred") == 0);
+    for (size_t c = 0; named && c < sizeof calls / sizeof calls[0]; c++) {
+        for (size_t s = 0; s < sizeof sides / sizeof sides[0]; s++) {
+            if (strcmp(argv[1], calls[c].name) != 0 || strcmp(argv[2], sides[s].name) != 0)
+                continue;
+            struct question q = long_path(make_file(all, calls[c].ridge));
+            calls[c].ask(&sides[s], &q, strtoul(argv[4], NULL, 10));
+            return 0;
+        }
+    }
+    fputs("bench same, or bench CALL SIDE FILE TIMES\n", stderr);
+    return 2;
+}

@@ -1,0 +1,363 @@
+/* The calls check, read, profile, verdict and plan as document 01 has them, in plain C. */
+#include "plain.h"
+
+#include <stdbool.h>
+#include <string.h>
+
+#define RECORD_BYTES 1024u
+#define LEAST_RECORDS 6u
+#define MOST_RECORDS 4096u
+#define POSITIONS 3072u
+#define COLUMNS 100u
+#define UNIT 500u
+#define UNITS_EAST 15u
+#define UNITS_NORTH 31u
+#define ROW_WORDS 16u
+#define CODES 8u
+#define ELEVATIONS 8192u
+#define NO_HEIGHT 8191u
+#define WEST 125000u
+#define WIDTH 750000u
+#define MOST_Q 10000000000u
+#define MOST_N 200u
+#define MOST_MAST 100u
+
+/* The southern boundaries of the bases 0, 4, .. 84, in 500 m units. */
+static const uint16_t southern[] = {0,     899,   1767,  2666,  3534,  4433,  5301,  6200,  7068,  7967,  8866,
+                                    9734,  10633, 11532, 12400, 13299, 14198, 15097, 15965, 16864, 17763, 18662};
+
+/* A file that passes and its ground, whose southern boundary and extent to the north are in metres. */
+struct ground {
+    const uint8_t *file;
+    uint32_t zone;
+    uint32_t south;
+    uint32_t extent;
+    uint32_t highest;
+};
+
+/* A path whose ends lie on the ground of a file. The place is that of a refusal. */
+struct path {
+    struct ground ground;
+    struct janlishuk_point first;
+    struct janlishuk_point second;
+    uint64_t q;
+    uint32_t n;
+    uint32_t place;
+};
+
+/* N (T + G) at each of the samples 1 to N - 1, and the heights of the two ends rounded down, all in millimetres. */
+struct needs {
+    uint32_t n;
+    uint32_t place;
+    uint32_t first;
+    uint32_t second;
+    uint32_t at[JANLISHUK_ROOM];
+};
+
+/* A 16-bit number, high byte first. */
+static inline uint32_t number_at(const uint8_t *bytes)
+{
+    return (uint32_t)bytes[0] << 8 | bytes[1];
+}
+
+/* What position n of the index holds; positions are numbered from 1. */
+static inline uint32_t position(const uint8_t *file, size_t n)
+{
+    return number_at(file + 2 * (n - 1));
+}
+
+/* Whether positions 1 to end - 1 each hold 0 or 7 to M, no nonzero number twice, and those from end to 3071 hold 0. */
+static bool index_passes(const uint8_t *file, size_t highest, size_t end)
+{
+    bool named[MOST_RECORDS + 1];
+    memset(named, 0, highest + 1);
+    for (size_t n = 1; n < end; n++) {
+        size_t record = position(file, n);
+        if (record == 0)
+            continue;
+        if (record <= LEAST_RECORDS || record > highest || named[record])
+            return false;
+        named[record] = true;
+    }
+    for (size_t n = end; n < POSITIONS; n++) {
+        if (position(file, n) != 0)
+            return false;
+    }
+    return true;
+}
+
+/* Opens a file with its base and zone: refusals 1, 2 and 3 in that order, else 0 and its ground. */
+static uint32_t open_file(const uint8_t *file, size_t length, uint32_t base, uint32_t zone, struct ground *ground)
+{
+    if (length % RECORD_BYTES != 0 || length < LEAST_RECORDS * RECORD_BYTES || length > MOST_RECORDS * RECORD_BYTES)
+        return 1;
+    if (base % 4 != 0 || base > 80 || zone < 1 || zone > 60)
+        return 2;
+    uint32_t highest = position(file, POSITIONS);
+    if (highest < LEAST_RECORDS || highest > length / RECORD_BYTES)
+        return 3;
+    uint32_t south = southern[base / 4];
+    uint32_t units = southern[base / 4 + 1] - south;
+    if (!index_passes(file, highest, COLUMNS * (units / UNITS_NORTH)))
+        return 3;
+    *ground = (struct ground){.file = file, .zone = zone, .south = UNIT * south, .extent = UNIT * units, .highest = highest};
+    return 0;
+}
+
+/* Whether a point is of the file's zone and on its ground. */
+static inline bool on_ground(const struct ground *ground, const struct janlishuk_point *point)
+{
+    return point->zone == ground->zone && point->easting - WEST < WIDTH && point->northing - ground->south < ground->extent;
+}
+
+/* The part of a file from the south-west corner of a point on, for the point's units east and north; null where not covered. */
+static inline const uint8_t *find_corner(const uint8_t *file, uint32_t x, uint32_t y)
+{
+    uint32_t rectangle = COLUMNS * (y / UNITS_NORTH) + x / UNITS_EAST;
+    uint32_t record = rectangle == 0 ? 0 : position(file, rectangle);
+    if (record == 0)
+        return NULL;
+    return file + RECORD_BYTES * (record - 1) + 2 * (ROW_WORDS * (y % UNITS_NORTH) + x % UNITS_EAST);
+}
+
+/* Whether a corner weighs in and has no height. */
+static inline bool lacks_height(uint32_t word, uint32_t weight)
+{
+    return word % ELEVATIONS == NO_HEIGHT && weight > 0;
+}
+
+/* The one of two surface codes with the greater sum of weights, on a tie the smaller code. */
+static inline uint32_t greater(const uint32_t *sums, uint32_t code, uint32_t other)
+{
+    return sums[other] > sums[code] || (sums[other] == sums[code] && other < code) ? other : code;
+}
+
+/* Reads a point's exact height, and its surface code unless that is null: refusals 4, 5 and 6 in that order, else 0. */
+static uint32_t read_point(const struct ground *ground, const struct janlishuk_point *point, uint32_t *height, uint8_t *code)
+{
+    if (!on_ground(ground, point))
+        return 4;
+    uint32_t east = point->easting - WEST, north = point->northing - ground->south;
+    uint32_t fx = east % UNIT, fy = north % UNIT;
+    const uint8_t *corner = find_corner(ground->file, east / UNIT, north / UNIT);
+    if (corner == NULL)
+        return 5;
+    uint32_t sw = number_at(corner), sw_weight = (UNIT - fx) * (UNIT - fy);
+    uint32_t se = number_at(corner + 2), se_weight = fx * (UNIT - fy);
+    uint32_t nw = number_at(corner + 2 * ROW_WORDS), nw_weight = (UNIT - fx) * fy;
+    uint32_t ne = number_at(corner + 2 * ROW_WORDS + 2), ne_weight = fx * fy;
+    if (lacks_height(sw, sw_weight) || lacks_height(se, se_weight) || lacks_height(nw, nw_weight) || lacks_height(ne, ne_weight))
+        return 6;
+    *height = sw_weight * (sw % ELEVATIONS) + se_weight * (se % ELEVATIONS) + nw_weight * (nw % ELEVATIONS) + ne_weight * (ne % ELEVATIONS);
+    if (code != NULL) {
+        uint32_t sums[CODES] = {0};
+        sums[sw / ELEVATIONS] += sw_weight;
+        sums[se / ELEVATIONS] += se_weight;
+        sums[nw / ELEVATIONS] += nw_weight;
+        sums[ne / ELEVATIONS] += ne_weight;
+        uint32_t south = greater(sums, sw / ELEVATIONS, se / ELEVATIONS);
+        *code = (uint8_t)greater(sums, greater(sums, south, nw / ELEVATIONS), ne / ELEVATIONS);
+    }
+    return 0;
+}
+
+/* The least whole number N of at least 1 with (500 N)^2 >= Q, for Q from 1 to 10,000,000,000. */
+static uint32_t least_steps(uint64_t q)
+{
+    uint32_t below = 0, n = MOST_N;
+    while (n - below > 1) {
+        uint32_t middle = (below + n) / 2;
+        uint64_t reach = (uint64_t)UNIT * middle;
+        if (reach * reach >= q)
+            n = middle;
+        else
+            below = middle;
+    }
+    return n;
+}
+
+/* Opens a file and a path on it: refusals 1, 2, 3, then 4 for each end, then 7, else 0. */
+static uint32_t open_path(const uint8_t *file, size_t length, uint32_t base, uint32_t zone, struct janlishuk_point first,
+                          struct janlishuk_point second, struct path *path)
+{
+    path->place = 0;
+    uint32_t refusal = open_file(file, length, base, zone, &path->ground);
+    if (refusal != 0)
+        return refusal;
+    if (!on_ground(&path->ground, &first) || !on_ground(&path->ground, &second))
+        return 4;
+    int64_t east = (int64_t)second.easting - first.easting, north = (int64_t)second.northing - first.northing;
+    uint64_t q = (uint64_t)(east * east + north * north);
+    if (q == 0 || q > MOST_Q)
+        return 7;
+    path->first = first;
+    path->second = second;
+    path->q = q;
+    path->n = least_steps(q);
+    return 0;
+}
+
+/* Reads the samples from 0 upward, their codes where there is room for them: refusals 4, 5 and 6 at the path's place, else 0. */
+static uint32_t read_samples(struct path *path, uint32_t *heights, uint8_t *codes)
+{
+    const struct janlishuk_point first = path->first, second = path->second;
+    struct janlishuk_point sample = first;
+    uint32_t n = path->n;
+    for (uint32_t i = 0; i <= n; i++) {
+        sample.easting = ((n - i) * first.easting + i * second.easting) / n;
+        sample.northing = ((n - i) * first.northing + i * second.northing) / n;
+        uint32_t refusal = read_point(&path->ground, &sample, &heights[i], codes == NULL ? NULL : &codes[i]);
+        if (refusal != 0) {
+            path->place = i;
+            return refusal;
+        }
+    }
+    return 0;
+}
+
+/* Opens a path for masts or mast limits of a and b and reads its heights: refusals 1 to 8 in their order, else 0. */
+static uint32_t read_link(const uint8_t *file, size_t length, uint32_t base, uint32_t zone, struct janlishuk_point first,
+                          struct janlishuk_point second, uint32_t a, uint32_t b, struct path *path, uint32_t *heights)
+{
+    uint32_t refusal = open_path(file, length, base, zone, first, second, path);
+    if (refusal != 0)
+        return refusal;
+    if (a > MOST_MAST || b > MOST_MAST)
+        return 8;
+    return read_samples(path, heights, NULL);
+}
+
+/* N (T + G) at sample i, in millimetres: T and G are each rounded up. */
+static inline uint32_t need(const struct path *path, const uint32_t *heights, uint32_t i)
+{
+    uint64_t n = path->n, divisor = 17000 * n * n;
+    uint64_t curve = (path->q * (i * (n - i)) + divisor - 1) / divisor;
+    return path->n * ((heights[i] + 249) / 250 + (uint32_t)curve);
+}
+
+/* Reads the heights of a path and finds what each of its samples needs: refusals 1 to 8 in their order, else 0. */
+static uint32_t find_needs(const uint8_t *file, size_t length, uint32_t base, uint32_t zone, struct janlishuk_point first,
+                           struct janlishuk_point second, uint32_t la, uint32_t lb, struct needs *needs)
+{
+    struct path path;
+    uint32_t heights[JANLISHUK_ROOM];
+    uint32_t refusal = read_link(file, length, base, zone, first, second, la, lb, &path, heights);
+    needs->place = path.place;
+    if (refusal != 0)
+        return refusal;
+    needs->n = path.n;
+    needs->first = heights[0] / 250;
+    needs->second = heights[path.n] / 250;
+    for (uint32_t i = 1; i < path.n; i++)
+        needs->at[i] = need(&path, heights, i);
+    return 0;
+}
+
+/* The clear test with masts a and b; touching is clear. */
+static bool is_clear(const struct needs *needs, uint32_t a, uint32_t b)
+{
+    uint32_t n = needs->n, first = needs->first + 1000 * a, second = needs->second + 1000 * b;
+    for (uint32_t i = 1; i < n; i++) {
+        if ((n - i) * first + i * second < needs->at[i])
+            return false;
+    }
+    return true;
+}
+
+/* The check of a file. */
+struct janlishuk_check_answer plain_check(const uint8_t *file, size_t length, uint32_t base, uint32_t zone)
+{
+    struct ground ground;
+    uint32_t refusal = open_file(file, length, base, zone, &ground);
+    return (struct janlishuk_check_answer){.refusal = refusal, .highest = refusal == 0 ? ground.highest : 0};
+}
+
+/* The reading of one point. */
+struct janlishuk_read_answer plain_read(const uint8_t *file, size_t length, uint32_t base, uint32_t zone, struct janlishuk_point point)
+{
+    struct ground ground;
+    uint32_t height;
+    uint8_t code;
+    uint32_t refusal = open_file(file, length, base, zone, &ground);
+    if (refusal == 0)
+        refusal = read_point(&ground, &point, &height, &code);
+    if (refusal != 0)
+        return (struct janlishuk_read_answer){.refusal = refusal};
+    return (struct janlishuk_read_answer){.height = height, .code = code};
+}
+
+/* The path profile; unused places are 0. */
+struct janlishuk_profile_answer plain_profile(const uint8_t *file, size_t length, uint32_t base, uint32_t zone,
+                                              struct janlishuk_point first, struct janlishuk_point second)
+{
+    struct janlishuk_profile_answer answer;
+    struct path path;
+    uint32_t refusal = open_path(file, length, base, zone, first, second, &path);
+    if (refusal == 0)
+        refusal = read_samples(&path, answer.heights, answer.codes);
+    uint32_t used = refusal == 0 ? path.n + 1 : 0;
+    memset(answer.heights + used, 0, (JANLISHUK_ROOM - used) * sizeof answer.heights[0]);
+    memset(answer.codes + used, 0, JANLISHUK_ROOM - used);
+    answer.refusal = refusal;
+    answer.place = path.place;
+    answer.n = refusal == 0 ? path.n : 0;
+    return answer;
+}
+
+/* The clear verdict with masts a and b, up to the first sample that blocks. */
+struct janlishuk_verdict_answer plain_verdict(const uint8_t *file, size_t length, uint32_t base, uint32_t zone,
+                                              struct janlishuk_point first, struct janlishuk_point second, uint32_t a, uint32_t b)
+{
+    struct path path;
+    uint32_t heights[JANLISHUK_ROOM];
+    uint32_t refusal = read_link(file, length, base, zone, first, second, a, b, &path, heights);
+    if (refusal != 0)
+        return (struct janlishuk_verdict_answer){.refusal = refusal, .place = path.place};
+    uint32_t n = path.n, top_a = heights[0] / 250 + 1000 * a, top_b = heights[n] / 250 + 1000 * b;
+    for (uint32_t i = 1; i < n; i++) {
+        if ((n - i) * top_a + i * top_b < need(&path, heights, i))
+            return (struct janlishuk_verdict_answer){.clear = 0};
+    }
+    return (struct janlishuk_verdict_answer){.clear = 1};
+}
+
+/* The mast plan. Raising the first mast never raises the least second mast, so the two go over the pairs as down a staircase. */
+struct janlishuk_plan_answer plain_plan(const uint8_t *file, size_t length, uint32_t base, uint32_t zone, struct janlishuk_point first,
+                                        struct janlishuk_point second, uint32_t la, uint32_t lb)
+{
+    struct needs needs;
+    uint32_t refusal = find_needs(file, length, base, zone, first, second, la, lb, &needs);
+    if (refusal != 0)
+        return (struct janlishuk_plan_answer){.refusal = refusal, .place = needs.place};
+    uint32_t a = 0, b = lb;
+    while (!is_clear(&needs, a, b)) {
+        if (a == la)
+            return (struct janlishuk_plan_answer){.refusal = 9};
+        a++;
+    }
+    struct janlishuk_plan_answer least = {.first = a, .second = b};
+    for (; a <= la && a < least.first + least.second; a++) {
+        while (b > 0 && is_clear(&needs, a, b - 1))
+            b--;
+        if (a + b < least.first + least.second)
+            least = (struct janlishuk_plan_answer){.first = a, .second = b};
+    }
+    return least;
+}
+
+/* The mast plan by every pair, in order of sum and then of the first mast. */
+struct janlishuk_plan_answer plain_plan_every_pair(const uint8_t *file, size_t length, uint32_t base, uint32_t zone,
+                                                   struct janlishuk_point first, struct janlishuk_point second, uint32_t la, uint32_t lb)
+{
+    struct needs needs;
+    uint32_t refusal = find_needs(file, length, base, zone, first, second, la, lb, &needs);
+    if (refusal != 0)
+        return (struct janlishuk_plan_answer){.refusal = refusal, .place = needs.place};
+    for (uint32_t sum = 0; sum <= la + lb; sum++) {
+        for (uint32_t a = sum > lb ? sum - lb : 0; a <= la && a <= sum; a++) {
+            if (is_clear(&needs, a, sum - a))
+                return (struct janlishuk_plan_answer){.first = a, .second = sum - a};
+        }
+    }
+    return (struct janlishuk_plan_answer){.refusal = 9};
+}

@@ -1,0 +1,28 @@
+// Works the checked figures P1 to P12 through the library, on files that it builds, and prints each
+// as one line.
+mod call;
+mod file;
+mod name;
+mod place;
+mod plan;
+mod point;
+mod profile;
+mod reading;
+mod say;
+mod verdict;
+
+// Prints the twelve figures.
+fn main() {
+    name::p1();
+    place::p2();
+    place::p3();
+    place::p4();
+    place::p5();
+    reading::p6();
+    reading::p7();
+    reading::p8();
+    profile::p9();
+    verdict::p10();
+    plan::p11();
+    plan::p12();
+}

@@ -1,0 +1,9 @@
+-- What a reader must believe of the library, beside what its rooms define.
+--     Engine       the point for the engine, as C gets it
+--     Promise      what each public call promises
+--     Order        the numbers of each call in its order of checks, with their conditions
+--     Figure       document 01's checked figures P1 to P12, as one list
+pub mod Engine
+pub mod Promise
+pub mod Order
+pub mod Figure

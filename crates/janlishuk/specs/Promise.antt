@@ -1,0 +1,69 @@
+-- What each public call promises of its answer r, for all bytes and all numbers: the definitions of its room at what it was asked with, and that the
+-- lent file holds after the call what it held before. Assumes nothing.
+use mathlib.Core.Path.{_≡_}
+use mathlib.Core.List.{List}
+use Prim.Native.Nat.{ℕ}
+use denote.Ref.{RefT}
+use Rattle.ground.specs.Measure.{metres}
+use Rattle.ground.specs.Name.{fileName, nameAnswer}
+use Rattle.ground.specs.Boundary.{baseOf, baseAnswer}
+use Rattle.ground.specs.declared.name.NameAnswer.{NameAnswer}
+use Rattle.ground.specs.declared.table.BaseAnswer.{BaseAnswer}
+use Rattle.ground.specs.declared.point.Point.{Point}
+use Rattle.terrain.specs.Check.{checked, checkAnswer}
+use Rattle.terrain.specs.Record.{recordFor, Part}
+use Rattle.terrain.specs.Reading.{reading, readAnswer}
+use Rattle.terrain.specs.Engine.{engine, engineMeans}
+use Rattle.terrain.specs.declared.check.CheckAnswer.{CheckAnswer}
+use Rattle.terrain.specs.declared.reading.ReadAnswer.{ReadAnswer}
+use Rattle.terrain.specs.declared.engine.EnginePoint.{EnginePoint}
+use Rattle.link.specs.Profile.{linked, profile, profileAnswer}
+use Rattle.link.specs.Clear.{ofMasts, verdict, verdictAnswer}
+use Rattle.link.specs.Plan.{Plan}
+use Rattle.link.specs.Row.{row, rowAnswer}
+use Rattle.link.specs.declared.profile.ProfileAnswer.{ProfileAnswer}
+use Rattle.link.specs.declared.clear.VerdictAnswer.{VerdictAnswer}
+use Rattle.link.specs.declared.plan.PlanAnswer.{PlanAnswer}
+use Rattle.link.specs.declared.row.RowAnswer.{RowAnswer}
+use Rattle.janlishuk.specs.Engine.{engineAnswer}
+use Rattle.janlishuk.specs.declared.point.EngineAnswer.{EngineAnswer}
+
+-- the terrain bytes are never written
+abbrev Unwritten : List ℕ → List ℕ → Type 0
+Unwritten before after = after ≡ before
+
+-- `janlishuk_check`, `janlishuk_name`, `janlishuk_base`
+abbrev pub Checks : (before after : List ℕ) → ℕ → ℕ → CheckAnswer → Type 0
+Checks file after b z r = (r ≡ checkAnswer (checked file b z)) × Unwritten file after
+
+abbrev pub Names : ℕ → ℕ → NameAnswer → Type 0
+Names b z r = r ≡ nameAnswer (fileName b z)
+
+abbrev pub FindsBase : ℕ → BaseAnswer → Type 0
+FindsBase northing r = r ≡ baseAnswer (baseOf (metres northing))
+
+-- `janlishuk_read`, `record`, `engine_point`, `janlishuk_engine_point`
+abbrev pub Reads : (before after : List ℕ) → ℕ → ℕ → Point → ReadAnswer → Type 0
+Reads file after b z p r = (r ≡ readAnswer (reading file b z p)) × Unwritten file after
+
+abbrev pub HandsBack : (before after : RefT (List ℕ)) → ℕ → ℕ → Point → RefT (List ℕ) → Type 0
+HandsBack file after b z p r = Part file r (recordFor (file .now) b z p) × Unwritten (file .now) (after .now)
+
+abbrev pub Tells : (before after : List ℕ) → ℕ → ℕ → Point → EnginePoint → Type 0
+Tells file after b z p r = (engineMeans r ≡ engine (reading file b z p)) × Unwritten file after
+
+abbrev pub Shows : (before after : List ℕ) → ℕ → ℕ → Point → EngineAnswer → Type 0
+Shows file after b z p r = (r ≡ engineAnswer (engine (reading file b z p))) × Unwritten file after
+
+-- `janlishuk_profile`, `janlishuk_verdict`, `janlishuk_plan`, `janlishuk_engine_row`
+abbrev pub Profiles : (before after : List ℕ) → ℕ → ℕ → Point → Point → ProfileAnswer → Type 0
+Profiles file after b z p q r = (r ≡ profileAnswer (profile file b z p q)) × Unwritten file after
+
+abbrev pub Judges : (before after : List ℕ) → ℕ → ℕ → Point → Point → (ma mb : ℕ) → VerdictAnswer → Type 0
+Judges file after b z p q ma mb r = (r ≡ verdictAnswer (verdict file b z p q ma mb)) × Unwritten file after
+
+abbrev pub Plans : (before after : List ℕ) → ℕ → ℕ → Point → Point → (la lb : ℕ) → PlanAnswer → Type 0
+Plans file after b z p q la lb r = Plan (linked file b z (ofMasts p q la lb)) la lb r × Unwritten file after
+
+abbrev pub GivesRow : (before after : List ℕ) → ℕ → ℕ → Point → Point → (i : ℕ) → RowAnswer → Type 0
+GivesRow file after b z p q i r = (r ≡ rowAnswer (row file b z p q i)) × Unwritten file after

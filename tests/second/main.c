@@ -1,0 +1,108 @@
+/* The second program: makes files and questions, and compares every answer of the library with that of document 01's rules.
+ *
+ * Usage: second [SEED [COUNT]], with the seed of the drawn numbers and the number of questions, a question being one call compared. The
+ * questions of a seed are the same whatever the count. Ends with 1 at the first answer that differs, at a byte of a file that changed, at a
+ * touch of memory that was not lent, and, where COUNT is at least 20,000, where something that can come up never did; below that the table
+ * is only printed. */
+#define _DEFAULT_SOURCE
+#include <inttypes.h>
+#include <signal.h>
+#include <stdio.h>
+#include <stdlib.h>
+#include <unistd.h>
+
+#include "second.h"
+
+#define DEFAULT_SEED 1992
+#define DEFAULT_COUNT 100000
+#define COUNT_THAT_MUST_HAVE_ALL 20000
+#define QUESTIONS_OF_WHOLE 100
+#define QUESTIONS_OF_DAMAGED 20
+
+static uint64_t seed = DEFAULT_SEED;
+static uint64_t count = DEFAULT_COUNT;
+static uint64_t asked;
+static struct file file;
+static struct question question;
+static const char *answering = "rules";
+
+/* Prints which question it was, whatever went wrong with it. */
+static void print_where(const char *what)
+{
+    printf("FAIL: %s, seed %" PRIu64 ", question %" PRIu64 "\n", what, seed, asked);
+    print_question(&file, &question);
+}
+
+/* Ends the run where the file was written to or memory outside of it was touched. */
+static void on_fault(int number)
+{
+    printf("signal %d while an answer came from the %s\n", number, answering);
+    print_where("the file was written to, or memory touched that was not lent");
+    fflush(stdout);
+    _exit(1);
+}
+
+/* Asks one question of both and compares; ends the run where the answers differ. */
+static void ask(void)
+{
+    static union answer library;
+    static union answer rules;
+    question = draw_question(&file);
+    asked++;
+    answering = "library";
+    ask_library(&file, &question, &library);
+    answering = "rules";
+    ask_rules(&file, &question, &rules);
+    if (!same_answer(question.call, &library, &rules)) {
+        print_where("the answers differ");
+        print_answers(question.call, &library, &rules);
+        exit(1);
+    }
+    tally_answer(&file, &question, &rules);
+}
+
+/* Makes a file, asks its questions, and looks whether its bytes are still what they were. */
+static void ask_of_file(uint32_t number)
+{
+    make_file(&file, number);
+    tally_file(&file);
+    lend_file(&file);
+    uint32_t questions = file.damage == WHOLE ? QUESTIONS_OF_WHOLE : QUESTIONS_OF_DAMAGED;
+    for (uint32_t k = 0; k < questions && asked < count; k++)
+        ask();
+    if (!same_bytes(&file)) {
+        print_where("a byte of the file has changed, at this question or one before it");
+        exit(1);
+    }
+    take_back_file(&file);
+}
+
+/* The number that an argument says; ends the run where it says none. */
+static uint64_t number_of(const char *argument)
+{
+    char *end;
+    uint64_t number = strtoull(argument, &end, 10);
+    if (*argument == '\0' || *end != '\0') {
+        fprintf(stderr, "usage: second [SEED [COUNT]]\n");
+        exit(2);
+    }
+    return number;
+}
+
+int main(int argc, char **argv)
+{
+    if (argc > 1)
+        seed = number_of(argv[1]);
+    if (argc > 2)
+        count = number_of(argv[2]);
+    signal(SIGSEGV, on_fault);
+    signal(SIGBUS, on_fault);
+    draw_seed(seed);
+    for (uint32_t number = 0; asked < count; number++)
+        ask_of_file(number);
+    printf("seed %" PRIu64 ": %" PRIu64 " questions, all answers alike\n", seed, asked);
+    print_tally();
+    if (count >= COUNT_THAT_MUST_HAVE_ALL && tally_lacks())
+        return 1;
+    return 0;
+}

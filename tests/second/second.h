@@ -1,0 +1,154 @@
+/* What the parts of the second program share: drawn numbers, made files, drawn questions, compared answers and the count of them. */
+#ifndef SECOND_H
+#define SECOND_H
+
+#include <stdbool.h>
+#include <stddef.h>
+#include <stdint.h>
+
+#include "janlishuk.h"
+#include "rules.h"
+
+/* Most rectangles that a file can cover: 29 rows of 100, without rectangle 0. */
+#define MOST_COVERED 2899
+/* Most bytes that are kept of a file: 4097 records and some to grow by. */
+#define MOST_BYTES (4104 * 1024)
+/* Most missing heights and planted paths that are remembered of a file. */
+#define MOST_MISSING 64
+#define MOST_PLANTED 8
+
+/* Every kind of damage: its name here, its name in the table, and the refusal that it must have led to at least once. */
+#define DAMAGES(D) \
+    D(WHOLE, "none", 0) \
+    D(RAGGED, "length not a multiple of 1024", 1) \
+    D(SHORT, "5 records", 1) \
+    D(LONG, "4097 records", 1) \
+    D(EMPTY, "0 bytes", 1) \
+    D(HIGHEST_LOW, "M below 6", 3) \
+    D(HIGHEST_HIGH, "M above the record count", 3) \
+    D(ENTRY_LOW, "an entry of 1 to 6", 3) \
+    D(ENTRY_HIGH, "an entry above M", 3) \
+    D(ENTRY_TWICE, "an entry repeated", 3) \
+    D(STRAY, "a number in 100 x rows to 3071", 3) \
+    D(CUT, "cut at a random byte", 1) \
+    D(GROWN, "grown by random bytes", 1) \
+    D(BITS, "random bits turned", 3) \
+    D(STAMPED, "name stamped in the first bytes", 3) \
+    D(NOISE, "all bytes random", 3) \
+    D(SHIFTED, "index shifted", 3) \
+    D(SWAPPED, "index low byte first", 3) \
+    D(VAST, "length of 2^32 and a whole file", 1)
+
+#define DAMAGE_ENUM(name, text, refusal) name,
+enum damage { DAMAGES(DAMAGE_ENUM) DAMAGE_KINDS };
+
+/* A box of rectangles: the most south-western one, and how many there are to the east and to the north. */
+struct box {
+    uint32_t west;
+    uint32_t south;
+    uint32_t columns;
+    uint32_t rows;
+};
+
+/* A word of a rectangle, numbered from 1. */
+struct spot {
+    uint32_t rectangle;
+    uint32_t word;
+};
+
+/* A path made together with the ground below it, and masts with which it touches the ground or nearly does. */
+struct planted {
+    struct janlishuk_point first;
+    struct janlishuk_point second;
+    uint32_t a;
+    uint32_t b;
+};
+
+/* A made file. The library is lent `lent`, which it cannot write to; the rules read `bytes`. Only the first `kept` bytes are kept where
+ * the length is vast. `home` is the part of the ground where most of the questions are asked. */
+struct file {
+    uint8_t *bytes;
+    const uint8_t *lent;
+    size_t length;
+    size_t kept;
+    uint32_t base;
+    uint32_t zone;
+    uint32_t number;
+    enum damage damage;
+    struct box home;
+    uint32_t covered_count;
+    uint16_t covered[MOST_COVERED];
+    uint32_t missing_count;
+    struct spot missing[MOST_MISSING];
+    uint32_t planted_count;
+    struct planted planted[MOST_PLANTED];
+};
+
+enum call { CHECK, NAME, BASE, READ, ENGINE_POINT, PROFILE, VERDICT, PLAN, ENGINE_ROW, CALLS };
+
+/* A question: a call and its arguments. A point is in `first`, and so is the northing of a base; `a` and `b` are the masts or the mast
+ * limits, and `a` is the sample of an engine row. */
+struct question {
+    enum call call;
+    uint32_t base;
+    uint32_t zone;
+    struct janlishuk_point first;
+    struct janlishuk_point second;
+    uint32_t a;
+    uint32_t b;
+};
+
+union answer {
+    struct janlishuk_check_answer check;
+    struct janlishuk_name_answer name;
+    struct janlishuk_base_answer base;
+    struct janlishuk_read_answer read;
+    struct janlishuk_engine_point_answer engine_point;
+    struct janlishuk_profile_answer profile;
+    struct janlishuk_verdict_answer verdict;
+    struct janlishuk_plan_answer plan;
+    struct janlishuk_engine_row_answer engine_row;
+};
+
+/* draw.c */
+void draw_seed(uint64_t seed);
+uint64_t draw(void);
+uint32_t below(uint32_t bound);
+uint32_t between(uint32_t least, uint32_t most);
+bool chance(uint32_t percent);
+uint32_t far_number(void);
+uint64_t square_root(uint64_t square);
+
+/* files.c, plant.c, damage.c, lend.c */
+void make_file(struct file *file, uint32_t number);
+void plant_paths(struct file *file, bool flat);
+void damage_file(struct file *file);
+const char *damage_name(enum damage damage);
+void lend_file(struct file *file);
+bool same_bytes(const struct file *file);
+void take_back_file(struct file *file);
+
+/* questions.c, paths.c */
+struct rules_file opened(const struct file *file, uint32_t base, uint32_t zone);
+struct janlishuk_point point_at(uint32_t base, uint32_t zone, uint32_t rectangle, uint32_t east, uint32_t north);
+struct janlishuk_point draw_point(const struct file *file, uint32_t base, uint32_t zone);
+uint32_t other_zone(uint32_t zone);
+struct question draw_question(const struct file *file);
+bool place_path(struct box box, uint32_t base, uint32_t zone, int64_t de, int64_t dn, struct planted *path);
+struct planted draw_path(const struct file *file, uint32_t base, uint32_t zone, bool *planted);
+
+/* answers.c */
+const char *call_name(enum call call);
+void ask_library(const struct file *file, const struct question *question, union answer *answer);
+void ask_rules(const struct file *file, const struct question *question, union answer *answer);
+bool same_answer(enum call call, const union answer *one, const union answer *other);
+void print_question(const struct file *file, const struct question *question);
+void print_answers(enum call call, const union answer *library, const union answer *rules);
+
+/* tally.c */
+void tally_file(const struct file *file);
+void tally_answer(const struct file *file, const struct question *question, const union answer *answer);
+void print_tally(void);
+bool tally_lacks(void);
+
+#endif

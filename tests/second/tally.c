@@ -1,0 +1,314 @@
+/* Counting what came up, and what should have come up and did not. */
+#include <inttypes.h>
+#include <stdio.h>
+
+#include "second.h"
+
+#define REFUSALS 10
+#define BASES 21
+#define CODES 8
+
+/* Every kind of answer that is counted: its name here and its name in the table. */
+#define KINDS(K) \
+    K(LAND, "engine point: land") \
+    K(WATER, "engine point: water") \
+    K(CLEAR, "verdict: clear") \
+    K(BLOCKED, "verdict: blocked") \
+    K(TOUCHING, "verdict: clear, touching exactly") \
+    K(HAIR, "verdict: blocked by at most 1 mm") \
+    K(PLAN_NEITHER, "plan: both masts 0") \
+    K(PLAN_FIRST, "plan: only the first above 0") \
+    K(PLAN_SECOND, "plan: only the second above 0") \
+    K(PLAN_BOTH, "plan: both above 0") \
+    K(PLAN_NO_PAIR, "plan: no pair") \
+    K(PLAN_TOUCHING, "plan: touching exactly") \
+    K(PLAN_TIE, "plan: another clear pair of that sum") \
+    K(PLAN_LIMITED, "plan: a mast at a limit below 100") \
+    K(STEPS_ONE, "path given: N = 1") \
+    K(STEPS_LONG, "path given: N = 150 to 200") \
+    K(STEPS_MOST, "path given: N = 200") \
+    K(PATH_LONGEST, "path given: exactly 100,000 m") \
+    K(PATH_METRE, "path given: 1 m") \
+    K(NORTH_EAST, "path given: to the north-east") \
+    K(NORTH_WEST, "path given: to the north-west") \
+    K(SOUTH_EAST, "path given: to the south-east") \
+    K(SOUTH_WEST, "path given: to the south-west") \
+    K(PLACE_5, "refusal 5 at a sample above 0") \
+    K(PLACE_6, "refusal 6 at a sample above 0") \
+    K(PLACE_LAST, "refusal at the last sample") \
+    K(ROW_BEYOND, "row refused at a sample above its own") \
+    K(MAST_FIRST, "refusal 8 before one at a sample") \
+    K(SECOND_END, "refusal 4 for the second end only") \
+    K(OTHER_ZONE, "refusal 4 for the zone only") \
+    K(ONE_POINT, "refusal 7 for Q = 0") \
+    K(TOO_FAR, "refusal 7 for Q > 10,000,000,000") \
+    K(WEIGHTLESS, "reading: weightless corner, no height") \
+    K(TIE, "reading: tie in the vote") \
+    K(TOP, "reading: 8190 m, the highest") \
+    K(LAST_COLUMN, "reading: last column of a rectangle") \
+    K(LAST_ROW, "reading: last row of a rectangle") \
+    K(ROW_29, "reading: in the 29th row") \
+    K(NOWHERE, "refusal 5 for rectangle 0") \
+    K(LOOSE, "passed: loose records") \
+    K(ABOVE, "passed: records above M") \
+    K(ALL_COVERED, "passed: every rectangle covered") \
+    K(NONE_COVERED, "passed: no rectangle covered") \
+    K(SMALLEST, "passed: 6 records") \
+    K(LARGEST, "passed: 4096 records")
+
+#define KIND_ENUM(name, text) name,
+enum kind { KINDS(KIND_ENUM) KIND_COUNT };
+#define KIND_TEXT(name, text) text,
+static const char *const kind_texts[KIND_COUNT] = {KINDS(KIND_TEXT)};
+#define DAMAGE_REFUSAL(name, text, refusal) refusal,
+static const int damage_refusals[DAMAGE_KINDS] = {DAMAGES(DAMAGE_REFUSAL)};
+
+/* The refusals that each call can give, by document 01; 0 is an answer. */
+static const char *const possible[CALLS] = {
+    [CHECK] = "0123", [NAME] = "02", [BASE] = "04", [READ] = "0123456", [ENGINE_POINT] = "0123456", [PROFILE] = "01234567",
+    [VERDICT] = "012345678", [PLAN] = "0123456789", [ENGINE_ROW] = "012345678",
+};
+
+static uint64_t refusals[CALLS][REFUSALS];
+static uint64_t kinds[KIND_COUNT];
+static uint64_t damaged_files[DAMAGE_KINDS];
+static uint64_t damaged[DAMAGE_KINDS][REFUSALS];
+static uint64_t codes[CODES];
+static uint64_t bases_read[BASES];
+static uint64_t bases_found[BASES];
+
+/* Counts a kind where it holds. */
+static void count_if(bool holds, enum kind kind)
+{
+    if (holds)
+        kinds[kind]++;
+}
+
+/* Counts a file that was made. */
+void tally_file(const struct file *file)
+{
+    damaged_files[file->damage]++;
+}
+
+/* Counts what kind of file passed a check. */
+static void tally_check(const struct file *file, const struct question *q, uint32_t highest)
+{
+    uint64_t all = 100 * rules_rows(q->base) - 1;
+    uint64_t covered = 0;
+    for (uint64_t n = 1; n <= all; n++)
+        covered += rules_position(file->bytes, n) != 0;
+    count_if(highest - 6 > covered, LOOSE);
+    count_if(file->length / 1024 > highest, ABOVE);
+    count_if(covered == all, ALL_COVERED);
+    count_if(covered == 0, NONE_COVERED);
+    count_if(file->length == 6 * 1024, SMALLEST);
+    count_if(file->length == 4096 * 1024, LARGEST);
+}
+
+/* Counts what kind of reading was given. */
+static void tally_reading(const struct file *file, const struct question *q, uint32_t code)
+{
+    struct rules_corner corners[4];
+    uint64_t sums[CODES] = {0};
+    bool weightless = false;
+    bool tie = false;
+    bool top = true;
+    rules_corners(opened(file, q->base, q->zone), q->first, corners);
+    for (int k = 0; k < 4; k++) {
+        sums[corners[k].code] += corners[k].weight;
+        weightless = weightless || (corners[k].weight == 0 && corners[k].elevation == RULES_NO_HEIGHT);
+        top = top && (corners[k].weight == 0 || corners[k].elevation == RULES_NO_HEIGHT - 1);
+    }
+    for (uint32_t other = 0; other < CODES; other++)
+        tie = tie || (other != code && sums[other] == sums[code]);
+    uint64_t word = rules_word(q->base, q->first);
+    count_if(weightless, WEIGHTLESS);
+    count_if(tie, TIE);
+    count_if(top, TOP);
+    count_if((word - 1) % 16 == 14, LAST_COLUMN);
+    count_if((word - 1) / 16 == 30, LAST_ROW);
+    count_if(rules_rectangle(q->base, q->first) >= 2800, ROW_29);
+    codes[code]++;
+    bases_read[q->base / 4]++;
+}
+
+/* Counts what kind of path an answer was given for. */
+static void tally_path(const struct question *q, uint64_t n)
+{
+    uint64_t square = rules_square(q->first, q->second);
+    bool east = q->second.easting > q->first.easting;
+    bool west = q->second.easting < q->first.easting;
+    bool north = q->second.northing > q->first.northing;
+    bool south = q->second.northing < q->first.northing;
+    count_if(n == 1, STEPS_ONE);
+    count_if(n >= 150, STEPS_LONG);
+    count_if(n == 200, STEPS_MOST);
+    count_if(square == 10000000000, PATH_LONGEST);
+    count_if(square == 1, PATH_METRE);
+    count_if(north && east, NORTH_EAST);
+    count_if(north && west, NORTH_WEST);
+    count_if(south && east, SOUTH_EAST);
+    count_if(south && west, SOUTH_WEST);
+}
+
+/* The least that (N-i) A + i B is above N (T + G) at any sample; 1 where there is none. */
+static int64_t least_spare(const struct rules_sight *sight, int64_t a, int64_t b)
+{
+    int64_t least = 1;
+    for (int64_t i = 1; i <= sight->n - 1; i++) {
+        int64_t spare = rules_spare(sight, i, a, b);
+        if (i == 1 || spare < least)
+            least = spare;
+    }
+    return least;
+}
+
+/* Counts what kind of plan was given. */
+static void tally_plan(const struct question *q, const struct rules_sight *sight, uint32_t first, uint32_t second)
+{
+    bool tie = false;
+    for (uint32_t other = first + 1; other <= q->a && other <= first + second; other++)
+        tie = tie || rules_clear(sight, other, first + second - other);
+    count_if(first == 0 && second == 0, PLAN_NEITHER);
+    count_if(first > 0 && second == 0, PLAN_FIRST);
+    count_if(first == 0 && second > 0, PLAN_SECOND);
+    count_if(first > 0 && second > 0, PLAN_BOTH);
+    count_if(least_spare(sight, first, second) == 0, PLAN_TOUCHING);
+    count_if(tie, PLAN_TIE);
+    count_if((first > 0 && first == q->a && q->a < 100) || (second > 0 && second == q->b && q->b < 100), PLAN_LIMITED);
+}
+
+/* Counts what kind of answer was given for a path. */
+static void tally_given_path(const struct file *file, const struct question *q, const union answer *answer)
+{
+    struct janlishuk_profile_answer profile = rules_profile(opened(file, q->base, q->zone), q->first, q->second);
+    struct rules_sight sight = rules_sight(&profile, rules_square(q->first, q->second));
+    tally_path(q, profile.n);
+    if (q->call == PLAN)
+        tally_plan(q, &sight, answer->plan.first, answer->plan.second);
+    if (q->call != VERDICT)
+        return;
+    int64_t spare = least_spare(&sight, q->a, q->b);
+    count_if(answer->verdict.clear == 1, CLEAR);
+    count_if(answer->verdict.clear == 0, BLOCKED);
+    count_if(spare == 0, TOUCHING);
+    count_if(spare < 0 && spare >= -sight.n, HAIR);
+}
+
+/* Counts what kind of refusal was met, of a point or a path. */
+static void tally_refusal(const struct file *file, const struct question *q, uint32_t refusal, uint32_t place)
+{
+    bool path = q->call >= PROFILE;
+    bool first_on_ground = refusal >= 4 && rules_on_ground(q->base, q->first);
+    bool second_on_ground = refusal >= 4 && path && rules_on_ground(q->base, q->second);
+    if (refusal == 4) {
+        count_if(first_on_ground && q->first.zone != q->zone, OTHER_ZONE);
+        count_if(path && first_on_ground && q->first.zone == q->zone, SECOND_END);
+    }
+    if (refusal == 7) {
+        uint64_t square = rules_square(q->first, q->second);
+        count_if(square == 0, ONE_POINT);
+        count_if(square != 0, TOO_FAR);
+    }
+    if (refusal == 8)
+        count_if(rules_profile(opened(file, q->base, q->zone), q->first, q->second).refusal != 0, MAST_FIRST);
+    count_if(refusal == 5 && place > 0, PLACE_5);
+    count_if(refusal == 6 && place > 0, PLACE_6);
+    count_if(refusal == 9, PLAN_NO_PAIR);
+    count_if(refusal == 5 && !path && rules_rectangle(q->base, q->first) == 0, NOWHERE);
+    if (place > 0 && second_on_ground)
+        count_if(place == rules_steps(rules_square(q->first, q->second)), PLACE_LAST);
+    count_if(q->call == ENGINE_ROW && place > q->a, ROW_BEYOND);
+}
+
+/* Counts an answer that library and rules agree upon. */
+void tally_answer(const struct file *file, const struct question *q, const union answer *answer)
+{
+    uint32_t refusal = answer->check.refusal;
+    refusals[q->call][refusal]++;
+    if (q->call != NAME && q->call != BASE)
+        damaged[file->damage][refusal]++;
+    if (q->call == BASE && refusal == 0)
+        bases_found[answer->base.base / 4]++;
+    if (q->call == NAME || q->call == BASE)
+        return;
+    if (refusal != 0) {
+        tally_refusal(file, q, refusal, answer->check.place);
+        return;
+    }
+    switch (q->call) {
+    case CHECK: tally_check(file, q, answer->check.highest); break;
+    case READ: tally_reading(file, q, answer->read.code); break;
+    case ENGINE_POINT:
+        count_if(answer->engine_point.kind == JANLISHUK_LAND, LAND);
+        count_if(answer->engine_point.kind == JANLISHUK_WATER, WATER);
+        tally_reading(file, q, answer->engine_point.code);
+        break;
+    default: tally_given_path(file, q, answer); break;
+    }
+}
+
+/* Prints a line of counts. */
+static void print_counts(const char *name, const uint64_t *counts, int count)
+{
+    printf("%-14s", name);
+    for (int k = 0; k < count; k++)
+        printf(" %6" PRIu64, counts[k]);
+    printf("\n");
+}
+
+/* Prints all that was counted. */
+void print_tally(void)
+{
+    printf("\nrefusal             0      1      2      3      4      5      6      7      8      9\n");
+    for (int call = 0; call < CALLS; call++)
+        print_counts(call_name((enum call)call), refusals[call], REFUSALS);
+    printf("\n%-42s %6s\n", "kind of answer", "times");
+    for (int kind = 0; kind < KIND_COUNT; kind++)
+        printf("%-42s %6" PRIu64 "\n", kind_texts[kind], kinds[kind]);
+    printf("\nreadings given by surface code 0 to 7, readings given by base 0 to 80, bases found 0 to 80\n");
+    print_counts("codes", codes, CODES);
+    print_counts("read, 0 to 40", bases_read, 11);
+    print_counts("read, 44 to 80", bases_read + 11, 10);
+    print_counts("found, to 40", bases_found, 11);
+    print_counts("found, to 80", bases_found + 11, 10);
+    printf("\n%-34s %6s %8s %8s %8s %8s\n", "damage", "files", "ref. 1", "ref. 2", "ref. 3", "other");
+    for (int kind = 0; kind < DAMAGE_KINDS; kind++) {
+        const uint64_t *of = damaged[kind];
+        uint64_t other = of[0] + of[4] + of[5] + of[6] + of[7] + of[8] + of[9];
+        printf("%-34s %6" PRIu64, damage_name((enum damage)kind), damaged_files[kind]);
+        printf(" %8" PRIu64 " %8" PRIu64 " %8" PRIu64 " %8" PRIu64 "\n", of[1], of[2], of[3], other);
+    }
+}
+
+/* Says that something never came up, and answers whether that is so. A number below 0 is not said. */
+static bool lacks(uint64_t count, const char *what, const char *which, int number)
+{
+    if (count > 0)
+        return false;
+    printf("FAIL: never came up: %s %s", what, which);
+    if (number >= 0)
+        printf(" %d", number);
+    printf("\n");
+    return true;
+}
+
+/* Says what can come up and never did, a line for each, and answers whether there is any. */
+bool tally_lacks(void)
+{
+    bool any = false;
+    for (int call = 0; call < CALLS; call++)
+        for (const char *refusal = possible[call]; *refusal != '\0'; refusal++)
+            any |= lacks(refusals[call][*refusal - '0'], call_name((enum call)call), "refusal", *refusal - '0');
+    for (int kind = 0; kind < KIND_COUNT; kind++)
+        any |= lacks(kinds[kind], "kind of answer,", kind_texts[kind], -1);
+    for (int code = 0; code < CODES; code++)
+        any |= lacks(codes[code], "reading of", "code", code);
+    for (int base = 0; base < BASES; base++) {
+        any |= lacks(bases_read[base], "reading with", "base", 4 * base);
+        any |= lacks(bases_found[base], "finding of", "base", 4 * base);
+    }
+    for (int kind = 0; kind < DAMAGE_KINDS; kind++)
+        any |= lacks(damaged[kind][damage_refusals[kind]], damage_name((enum damage)kind), "with refusal", damage_refusals[kind]);
+    return any;
+}
