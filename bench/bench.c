@@ -9,13 +9,18 @@
 #include <stdlib.h>
 #include <string.h>
 
-#define RECORD 1024u
+/* The files are of base 40 and zone 17, whose ground begins at this easting and northing and has so many rows and columns of rectangles. */
 #define BASE 40u
 #define ZONE 17u
 #define WEST 125000u
 #define SOUTH 4433000u
 #define ROWS 28u
 #define COLUMNS 100u
+
+/* Bytes of a record. */
+#define RECORD 1024u
+
+/* How many units north of the ground's corner the floor of the valley lies. */
 #define VALLEY 460u
 
 /* The hundred records of the smaller file cover ten columns and ten rows of rectangles from these on. */

@@ -1,33 +1,40 @@
 /* Janlishuk: radio links over the CRC 500-metre terrain files.
  *
- * Every call takes any bytes and any numbers: nothing need be checked beforehand, and a call that cannot answer says so in `refusal` and in
- * no other way. No call keeps anything, allocates anything, or writes to the file. Calls may run at the same time in several threads.
+ * Every call takes any bytes and any numbers: nothing need be checked beforehand, and a call that cannot answer says so in `refusal` and
+ * in no other way. No call keeps anything, allocates anything, or writes to the file. Calls may run at the same time in several threads.
  *
- * The file. `file` points to the whole terrain file in memory, at any alignment, and `length` is its length in bytes, all of which must be
- * readable. The caller owns the bytes, and lends them for the duration of the call; they must not change while it runs. Where `length` is 0
- * the pointer is not used, and may be null. `base` is the base latitude that the file is opened with, 0, 4, .. 80, and `zone` its UTM
- * zone, 1 to 60; neither is in the file, but both are in its name (janlishuk_name).
+ * The file. `file` points to the whole terrain file in memory, at any alignment, and `length` is its length in bytes, all of which must
+ * be readable. The caller owns the bytes, and lends them for the duration of the call; they must not change while it runs. Where
+ * `length` is 0 the pointer is not used, and may be null. `base` is the base latitude that the file is opened with, 0, 4, .. 80, and
+ * `zone` its UTM zone, 1 to 60; neither is in the file, but both are in its name (janlishuk_name).
  *
- * Points. Easting and northing are whole metres of the UTM grid, northern hemisphere, and `zone` is the zone that they are of.
+ * Points. Easting and northing are whole metres of the UTM grid, northern hemisphere, and `zone` is the zone that they are of. The
+ * ground of a file has eastings from 125,000 to 874,999 and the northings for which janlishuk_base gives its base. It is made of
+ * rectangles of 7.5 by 15.5 km, each of which the file covers or not. A height is the weighted mean of the four grid corners, 500 m
+ * apart, around the point; a corner of weight 0 does not count.
  *
- * Refusals. `refusal` 0 means that the answer is given. Else it is the first of these that holds, in the order 1, 2, 3, then for a point 4,
- * 5, 6; for a path 4 for the first end, 4 for the second, 7, 8, then 4, 5, 6 at each sample from 0 upward, then 9.
+ * Refusals. `refusal` 0 means that the answer is given. Else it is the first of these that holds, in the order 1, 2, 3, then for a point
+ * 4, 5, 6; for a path 4 for the first end, 4 for the second, 7, 8, then 4, 5, 6 at each sample from 0 upward, then 9. Each call says
+ * which numbers it can give, and skips the others.
  *   1  the length is not 1024 times a number from 6 to 4096
  *   2  the base is not 0, 4, .. 80, or the zone not 1 to 60
- *   3  the index breaks the rules of a file
+ *   3  the index breaks the rules of a file: the highest record number is not from 6 to the record count, or a position holds a number
+ *      other than 0 that is below 7, above the highest, in another position too, or where no rectangle is. So it is with a file that has
+ *      its name stamped into its first four bytes
  *   4  the point is of another zone, or not on the file's ground; of janlishuk_base: no file has this northing
  *   5  the file does not cover the point's rectangle
  *   6  a corner that weighs in at the point has no height
  *   7  the two ends are one point, or more than 100 km apart
- *   8  a mast or mast limit is above 100 m, or a sample is above n
+ *   8  a mast or mast limit is above 100 m, or the sample that janlishuk_engine_row is asked for is above n
  *   9  no pair of masts within the limits makes the path clear
- * `place` is the number of the sample at which a refusal was met, which may be 0; for a refusal that was met at no sample it is 0. Beside a
- * refusal all other fields of the answer are 0. Bytes between the fields are not set, so compare answers by their fields.
+ * `place` is the number of the sample at which a refusal was met, which may be 0; for a refusal that was met at no sample it is 0.
+ * Beside a refusal all other fields of the answer are 0. Bytes between the fields are not set, so compare answers by their fields.
  *
  * Surface codes: 0 unknown, 1 trees, 2 bare, 3 fresh water, 4 suburban, 5 marsh, 6 sea water, 7 urban.
  *
- * The library is x86-64 code with the System V calling convention. A call takes less than 8 KB of stack and, of the C library, memcpy and
- * memset. Its doubles are rounded to nearest, as a C program starts out. */
+ * The library is x86-64 code with the System V calling convention. A call needs less than 8 KB of stack and, of the C library, memcpy
+ * and memset. Its doubles are those of the rounding mode that a C program starts with; a caller that has changed it gets other last
+ * digits. */
 #ifndef JANLISHUK_H
 #define JANLISHUK_H
 
@@ -112,8 +119,9 @@ struct janlishuk_engine_row_answer {
     double share;
 };
 
-/* Checks a file. highest: the highest record number of its index, 6 where it covers nothing; not every record up to it need be in use.
- * Refusals 1, 2, 3. Every other call that takes a file makes the same check first, so there is no need to call this one before them. */
+/* Checks a file. highest: M, the highest record number that the file states, from 6 to its record count; not every record up to it need
+ * be in use, so it does not say how many rectangles are covered. Refusals 1, 2, 3. Every other call that takes a file makes the same
+ * check first, so there is no need to call this one before them. */
 struct janlishuk_check_answer janlishuk_check(const uint8_t *file, size_t length, uint32_t base, uint32_t zone);
 
 /* The name of the file of a base and a zone. name: four bytes of ASCII with no 0 after them, as NK17. Refusal 2. */
@@ -130,25 +138,28 @@ struct janlishuk_read_answer janlishuk_read(const uint8_t *file, size_t length, 
 struct janlishuk_engine_point_answer janlishuk_engine_point(const uint8_t *file, size_t length, uint32_t base, uint32_t zone,
                                                             struct janlishuk_point point);
 
-/* Reads the ground along the straight line on the grid between two points. n: how many steps of at most 500 m the path has, 1 to 200; its
- * samples are 0 to n, the first at the first end and the last at the second. heights and codes: those of each sample, as janlishuk_read
- * gives them; 0 after sample n. Refusals 1 to 7. */
+/* Reads the ground along the straight line on the grid between two points. n: how many steps of at most 500 m the path has, 1 to 200;
+ * its samples are 0 to n, the first at the first end and the last at the second: sample i lies at easting ((n - i) E0 + i E1) / n,
+ * truncated, and northing likewise. heights and codes: those of each sample, as janlishuk_read gives them; 0 after sample n. Refusals 1
+ * to 7. */
 struct janlishuk_profile_answer janlishuk_profile(const uint8_t *file, size_t length, uint32_t base, uint32_t zone,
                                                   struct janlishuk_point first, struct janlishuk_point second);
 
-/* Whether the path is clear with masts of a metres at the first end and b metres at the second, each 0 to 100. clear: 1, or 0 where it is
- * blocked. Refusals 1 to 8. */
+/* Whether the path is clear with masts of a metres at the first end and b metres at the second, each 0 to 100: whether at each sample
+ * between the ends the line between the mast tops is not below the ground and the bulge of an earth of 8,500 km effective radius.
+ * Touching is clear, and so is every path of n = 1. Heights are rounded so that a path can only look worse than it is. clear: 1, or 0
+ * where it is blocked. Refusals 1 to 8. */
 struct janlishuk_verdict_answer janlishuk_verdict(const uint8_t *file, size_t length, uint32_t base, uint32_t zone,
                                                   struct janlishuk_point first, struct janlishuk_point second, uint32_t a, uint32_t b);
 
-/* Plans the two masts of a path. la and lb: the limits of the first and the second mast, 0 to 100 m. first and second: the masts in whole
- * metres, each within its limit, that make the path clear; no clear pair has a smaller sum, nor the same sum with a lower first mast.
- * Refusals 1 to 9. */
+/* Plans the two masts of a path. la and lb: the limits of the first and the second mast, 0 to 100 m. first and second: the masts in
+ * whole metres, each within its limit, that make the path clear; no clear pair has a smaller sum, nor the same sum with a lower first
+ * mast. Refusals 1 to 9. */
 struct janlishuk_plan_answer janlishuk_plan(const uint8_t *file, size_t length, uint32_t base, uint32_t zone, struct janlishuk_point first,
                                             struct janlishuk_point second, uint32_t la, uint32_t lb);
 
-/* One sample of a path as the prediction engine takes it. i: the sample, 0 to n. height: in metres, as janlishuk_engine_point gives them,
- * and not in 1/250,000 m. share: its share of the way, i divided once by n. Refusals 1 to 8. */
+/* One sample of a path as the prediction engine takes it. i: the sample, 0 to n. height: in metres, as janlishuk_engine_point gives
+ * them, and not in 1/250,000 m. share: its share of the way, i divided once by n. Refusals 1 to 8. */
 struct janlishuk_engine_row_answer janlishuk_engine_row(const uint8_t *file, size_t length, uint32_t base, uint32_t zone,
                                                         struct janlishuk_point first, struct janlishuk_point second, uint32_t i);
 

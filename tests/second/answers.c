@@ -86,7 +86,10 @@ static size_t fields_of(enum call call, const union answer *answer, uint64_t fie
             fields[count++] = answer->name.name[k];
         break;
     case BASE: fields[count++] = answer->base.base; break;
-    case READ: fields[count++] = answer->read.height, fields[count++] = answer->read.code; break;
+    case READ:
+        fields[count++] = answer->read.height;
+        fields[count++] = answer->read.code;
+        break;
     case ENGINE_POINT:
         fields[count++] = answer->engine_point.kind;
         fields[count++] = answer->engine_point.code;
@@ -94,7 +97,10 @@ static size_t fields_of(enum call call, const union answer *answer, uint64_t fie
         break;
     case PROFILE: count += profile_fields(&answer->profile, fields + count); break;
     case VERDICT: fields[count++] = answer->verdict.clear; break;
-    case PLAN: fields[count++] = answer->plan.first, fields[count++] = answer->plan.second; break;
+    case PLAN:
+        fields[count++] = answer->plan.first;
+        fields[count++] = answer->plan.second;
+        break;
     case ENGINE_ROW:
         fields[count++] = bits_of(answer->engine_row.height);
         fields[count++] = bits_of(answer->engine_row.share);

@@ -12,12 +12,13 @@ const char *damage_name(enum damage damage)
     return names[damage];
 }
 
-/* The number in a position of the index, and writing it. */
+/* The number in a position of the index. */
 static uint32_t get_entry(const struct file *file, uint32_t n)
 {
     return (uint32_t)rules_position(file->bytes, n);
 }
 
+/* Writes a number into a position of the index. */
 static void set_entry(struct file *file, uint32_t n, uint32_t number)
 {
     file->bytes[2 * (n - 1)] = (uint8_t)(number / 256);

@@ -13,8 +13,9 @@
 #define MOST_COVERED 2899
 /* Most bytes that are kept of a file: 4097 records and some to grow by. */
 #define MOST_BYTES (4104 * 1024)
-/* Most missing heights and planted paths that are remembered of a file. */
+/* Most missing heights that are remembered of a file. */
 #define MOST_MISSING 64
+/* Most planted paths that are remembered of a file. */
 #define MOST_PLANTED 8
 
 /* Every kind of damage: its name here, its name in the table, and the refusal that it must have led to at least once. */

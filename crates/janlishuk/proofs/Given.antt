@@ -52,9 +52,9 @@ double m = ofInt binary64 (pos m)
 abbrev inMetres : ℕ → Float
 inMetres height = div binary64 (double height) (double 250000)
 
--- the base is the b with yB(b) <= y < yB(b+4)
+-- the base is the b, of 0, 4, .. 80, with yB(b) <= y < yB(b+4)
 pub base-given : (northing : ℕ) (r : BaseAnswer) → FindsBase northing r → r .refusal ≡ 0
-    → (yB (r .base) .0 ≤ northing / 500) × (northing / 500 < yB (r .base + 4) .0)
+    → (r .base ≡ 4 * (r .base / 4)) × (r .base ≤ 80) × (yB (r .base) .0 ≤ northing / 500) × (northing / 500 < yB (r .base + 4) .0)
 base-given northing r h e =
     let t = was-given (base-order northing) (rw h at e) in
     rw (h, t .1) (base-spans (t .0) (inUnits (metres northing)) (t .1))

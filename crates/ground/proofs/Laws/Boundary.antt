@@ -130,21 +130,32 @@ pub base-is : (b : ℕ) (y : Units) → isBase b ≡ true → yB b .0 ≤ y .0 �
 unfolding baseAt
 base-is b y h l u = found 21 0 (b / 4) b y (base-at b h .0) (omega (arith, base-at b h)) l u
 
-spanning : (k b : ℕ) (y : Units) (a : ℕ) → firstSpanning k b y ≡ given a → spans a y ≡ true
+-- what the search for it finds: the base after so many steps of 4, which spans y
+pub record Spanning (k b : ℕ) (y : Units) (a : ℕ) : Type 0 where
+  pub steps : ℕ
+  pub within : steps < k
+  pub is : a ≡ b + 4 * steps
+  pub spans : spans a y ≡ true
+
+spanning : (k b : ℕ) (y : Units) (a : ℕ) → firstSpanning k b y ≡ given a → Spanning k b y a
 unfolding firstSpanning
 spanning zero b y a e = absurd (not-both e)
 spanning (suc k) b y a e = go (spans b y) refl e (spanning k (b + 4) y a)
   where
     go : (t : Bool) → spans b y ≡ t → cond t (given b) (firstSpanning k (b + 4) y) ≡ given a
-        → (firstSpanning k (b + 4) y ≡ given a → spans a y ≡ true) → spans a y ≡ true
-    go true q e more = let i : b ≡ a = cc e in rw i at q
-    go false q e more = more e
+        → (firstSpanning k (b + 4) y ≡ given a → Spanning k (b + 4) y a) → Spanning (suc k) b y a
+    go true q e more = let i : b ≡ a = cc e in record { steps = 0; within = omega arith; is = omega arith; spans = rw i at q }
+    go false q e more =
+        let m = more e in
+        record { steps = m .steps + 1; within = omega (arith, m .within); is = omega (arith, m .is); spans = m .spans }
 
-pub base-spans : (b : ℕ) (y : Units) → baseAt y ≡ given b → (yB b .0 ≤ y .0) × (y .0 < yB (b + 4) .0)
+-- the base of y is one of those named, and spans it
+pub base-spans : (b : ℕ) (y : Units) → baseAt y ≡ given b → (b ≡ 4 * (b / 4)) × (b ≤ 80) × (yB b .0 ≤ y .0) × (y .0 < yB (b + 4) .0)
 unfolding baseAt spans
 base-spans b y e =
-    let t = and-eq-true-iff _ _ .0 (spanning 21 0 y b e) in
-    (leb-true _ _ (t .0), ltb-true _ _ (t .1))
+    let s = spanning 21 0 y b e in
+    let t = and-eq-true-iff _ _ .0 (s .spans) in
+    (omega (arith, s .is), omega (arith, s .is, s .within), leb-true _ _ (t .0), ltb-true _ _ (t .1))
 
 pub base-refused : (y : Units) → (baseAt y ≡ refused 4 0) ↔ (18662 ≤ y .0)
 base-refused y = (λ e. go e (decLe 18662 (y .0)) (decLe (yB (4 * (y .0 / 899) + 4) .0) (y .0)), base-none y)

@@ -1,5 +1,5 @@
 -- Some file passes the check, and a point of it is read: so no law of a file that passes speaks of nothing. In the file rectangle 50 has record 7,
--- M is 7, and every other byte is 0. Assumes nothing.
+-- M is 7, and every other byte is 0. The least file that there is passes too. Assumes nothing.
 use mathlib.Core.Path.{_≡_, refl, sym, _∙_}
 use mathlib.Core.Logic.{_⊎_, inl, inr}
 use mathlib.Core.List.{List}
@@ -76,6 +76,36 @@ some-passes =
     once : (m n : ℕ) → 1 ≤ m → m < n → n < 2800 → position file m ≡ position file n → Dec (n ≡ 50) → position file n ≡ 0
     once m n a b c e (yes q) = sym e ∙ empty m a (omega arith) (λ r. omega arith)
     once m n a b c e (no q) = empty n (omega arith) (omega arith) q
+
+-- So does the least file, of six records, which covers nothing: M is 6.
+unfoldable pub least : List ℕ
+least = set (replicate 6144 0) 6143 6
+
+least-long : length least ≡ 6144
+unfolding least
+least-long = simp (length-set, length-replicate)
+
+least-M : highest least ≡ 6
+unfolding nth least
+least-M = refl
+
+least-empty : (n : ℕ) → 1 ≤ n → n ≤ 3071 → position least n ≡ 0
+unfolding nth least
+least-empty n a b =
+    let zero : (i : ℕ) → i < 6143 → getD least i 0 ≡ 0 =
+    λ i h. getD-set-other (replicate 6144 0) 6143 i 6 0 (λ e. omega arith) ∙ getD-replicate 6144 i 0 0 (omega arith) in
+    rw (zero (2 * (n - 1)) (omega arith), zero (2 * (n - 1) + 1) (omega arith))
+
+pub least-passes : Passes least 28
+least-passes =
+    record {
+      whole = omega (arith, least-long);
+      lowestM = omega (arith, least-M);
+      highestM = omega (arith, least-M, least-long);
+      entries = λ n a b. inl (least-empty n a (omega arith));
+      once = λ m n a b c e. least-empty n (omega arith) (omega arith);
+      rest = λ n a b. least-empty n (omega arith) b;
+    }
 
 -- at the south-west corner of rectangle 50
 abbrev pub corner : Point

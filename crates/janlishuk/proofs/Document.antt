@@ -1,0 +1,162 @@
+-- Sentences of document 01 that the promises and the order of checks rest on, in bytes and in numbers: where a point lies, which bytes a position is, when
+-- a file passes, and the numbers of each call in their order. So no definition between them and the program can change with it. Assumes nothing.
+use mathlib.Core.Path.{_≡_, refl}
+use mathlib.Core.Logic.{_⊎_, inl, inr, _↔_}
+use mathlib.Core.List.{List, [], _∷_, _++_}
+use Prim.Native.Nat.{ℕ, zero, suc, _+_, _-_, _*_, _/_, _≤_, _<_}
+use native.Mathlib.Omega.{arith}
+use lib.Dec.{eqb·suc-zero}
+use lib.ListN.{length, getD}
+use Rattle.ground.specs.Boundary.{yB, rows}
+use Rattle.ground.specs.Place.{number, wordsOf, placeAt, placeOf}
+use Rattle.ground.specs.declared.point.Point.{Point}
+use Rattle.terrain.specs.Bytes.{nth, records}
+use Rattle.terrain.specs.Index.{position, Whole, Passes}
+use Rattle.terrain.specs.Record.{entry}
+use Rattle.janlishuk.specs.Order.{Line, FirstOf, placed, ofFile, ofPoint, ofEnds, ofMasts, ofRow, ofSamples, ofPairs, ofLink}
+use Rattle.link.specs.Path.{Q, N}
+
+-- With x = E / 500, y = N / 500 truncated: Iy = (y - yB) / 31, Ix = (x - 250) / 15, rectangle n = 100 Iy + Ix; wx = x - 250 - 15 Ix,
+-- wy = y - yB - 31 Iy, word w = 16 wy + wx + 1, and the corners are words w, w+1, w+16, w+17.
+module _ (b z : ℕ) (p : Point) where
+  abbrev x : ℕ
+  x = p .easting .0 / 500
+
+  abbrev y : ℕ
+  y = p .northing .0 / 500
+
+  abbrev Ix : ℕ
+  Ix = (x - 250) / 15
+
+  abbrev Iy : ℕ
+  Iy = (y - yB b .0) / 31
+
+  abbrev w : ℕ
+  w = 16 * (y - yB b .0 - 31 * Iy) + (x - 250 - 15 * Ix) + 1
+
+  pub rectangle-number : number (placed b z p .rectangle) ≡ 100 * Iy + Ix
+  unfolding placeOf placeAt
+  rectangle-number = refl
+
+  pub corner-words : wordsOf (placed b z p) ≡ record { sw = w; se = w + 1; nw = w + 16; ne = w + 17 }
+  unfolding placeOf placeAt
+  corner-words = refl
+
+-- Positions are 16-bit numbers from 1, high byte first, and position n holds the record number for rectangle n.
+module _ (file : List ℕ) where
+  abbrev at : ℕ → ℕ
+  at n = 256 * getD file (2 * (n - 1)) 0 + getD file (2 * (n - 1) + 1) 0
+
+  pub position-bytes : (n : ℕ) → position file n ≡ at n
+  unfolding nth
+  position-bytes n = refl
+
+  pub rectangle-0 : entry file 0 ≡ 0
+  unfolding entry
+  rectangle-0 = refl
+
+  pub own-position : (n : ℕ) → 1 ≤ n → entry file n ≡ at n
+  unfolding entry nth
+  own-position zero h = absurd (omega arith)
+  own-position (suc n) h = rw eqb·suc-zero
+
+  -- 1: length not 1024 times a number from 6 to 4096
+  pub record Long : Type 0 where
+    pub count : ℕ
+    pub least : 6 ≤ count
+    pub most : count ≤ 4096
+    pub long : length file ≡ 1024 * count
+
+  pub whole-means : Whole file ↔ Long
+  whole-means = (
+    (λ w. record { count = records file; least = w .least; most = w .most; long = w .multiple }),
+    λ l.
+        let c = l .count in
+        let e : length file ≡ 1024 * c = l .long in
+        let least : 6 ≤ c = l .least in
+        let most : c ≤ 4096 = l .most in
+        record { multiple = omega arith; least = omega arith; most = omega arith },
+  )
+
+  -- 3: M or a position breaks the file rules
+  module _ (b : ℕ) where
+    abbrev end : ℕ
+    end = 100 * ((yB (b + 4) .0 - yB b .0) / 31)
+
+    pub record Rules : Type 0 where
+      pub whole : Long
+      pub M-least : 6 ≤ at 3072
+      pub M-most : at 3072 ≤ whole .count
+      pub held : (n : ℕ) → 1 ≤ n → n < end → (at n ≡ 0) ⊎ ((7 ≤ at n) × (at n ≤ at 3072))
+      pub once : (m n : ℕ) → 1 ≤ m → m < n → n < end → at m ≡ at n → at n ≡ 0
+      pub rest : (n : ℕ) → end ≤ n → n ≤ 3071 → at n ≡ 0
+
+    pub passes-means : Passes file (rows b) ↔ Rules
+    unfolding nth rows whole-means
+    passes-means = (
+      (λ p.
+          record {
+            whole = whole-means .0 (p .whole);
+            M-least = p .lowestM;
+            M-most = p .highestM;
+            held = p .entries;
+            once = p .once;
+            rest = p .rest;
+          }),
+      λ r.
+          let c = r .whole .count in
+          let long : length file ≡ 1024 * c = r .whole .long in
+          let most : at 3072 ≤ c = r .M-most in
+          record {
+            whole = whole-means .1 (r .whole);
+            lowestM = r .M-least;
+            highestM = omega arith;
+            entries = r .held;
+            once = r .once;
+            rest = r .rest;
+          },
+    )
+
+-- Order: 1, 2, 3, then 4 for the first end, 4 for the second, 7, 8, then samples from 0 upward, each tried for 4, 5, 6 in that order, then 9.
+abbrev numbers : List Line → List ℕ
+numbers [] = []
+numbers (l ∷ ls) = l .number ∷ numbers ls
+
+abbrev places : List Line → List ℕ
+places [] = []
+places (l ∷ ls) = l .place ∷ places ls
+
+module _ (file : List ℕ) (b z : ℕ) (p q : Point) (ma mb i : ℕ) where
+  abbrev before-samples : List Line → List ℕ
+  before-samples eight = numbers (ofFile file b z ++ (ofEnds b z p q ++ eight))
+
+  pub record InDocumentOrder : Type 1 where
+    pub read : numbers (ofFile file b z ++ ofPoint file b z 0 p) ≡ (1 ∷ 2 ∷ 3 ∷ 4 ∷ 5 ∷ 6 ∷ [])
+    pub profile : before-samples [] ≡ (1 ∷ 2 ∷ 3 ∷ 4 ∷ 4 ∷ 7 ∷ [])
+    pub masts : before-samples (ofMasts ma mb) ≡ (1 ∷ 2 ∷ 3 ∷ 4 ∷ 4 ∷ 7 ∷ 8 ∷ [])
+    pub row : before-samples (ofRow p q i) ≡ (1 ∷ 2 ∷ 3 ∷ 4 ∷ 4 ∷ 7 ∷ 8 ∷ [])
+    pub link : (eight : List Line) → ofLink eight file b z p q ≡ (ofFile file b z ++ ((ofEnds b z p q ++ eight) ++ ofSamples file b z p q (N (Q p q) + 1)))
+    pub samples : numbers (ofSamples file b z p q 3) ≡ (4 ∷ 5 ∷ 6 ∷ 4 ∷ 5 ∷ 6 ∷ 4 ∷ 5 ∷ 6 ∷ [])
+    pub sample-places : places (ofSamples file b z p q 3) ≡ (0 ∷ 0 ∷ 0 ∷ 1 ∷ 1 ∷ 1 ∷ 2 ∷ 2 ∷ 2 ∷ [])
+    pub pairs : numbers (ofPairs file b z p q ma mb) ≡ (9 ∷ [])
+
+  pub in-document-order : InDocumentOrder
+  unfolding ofSamples
+  in-document-order =
+      record { read = refl; profile = refl; masts = refl; row = refl; link = λ eight. refl; samples = refl; sample-places = refl; pairs = refl }
+
+-- "Each number is given exactly when its condition is the first to hold": where the first line's condition holds, its number and place are given, and
+-- where it does not, those of the lines after it.
+pub first-holds : (l : Line) (ls : List Line) (refusal place : ℕ) → FirstOf (l ∷ ls) refusal place → l .condition
+    → (refusal ≡ l .number) × (place ≡ l .place)
+first-holds l ls refusal place (inl h) c = h .1
+first-holds l ls refusal place (inr h) c = absurd (h .0 c)
+
+pub first-fails : (l : Line) (ls : List Line) (refusal place : ℕ) → FirstOf (l ∷ ls) refusal place → (l .condition → ⊥) → FirstOf ls refusal place
+first-fails l ls refusal place (inl h) n = absurd (n (h .0))
+first-fails l ls refusal place (inr h) n = h .1
+
+-- and a refusal of the first line says that its condition holds, unless a line after it has the same number
+pub first-was : (l : Line) (ls : List Line) (refusal place : ℕ) → FirstOf (l ∷ ls) refusal place → l .condition ⊎ ((l .condition → ⊥) × FirstOf ls refusal place)
+first-was l ls refusal place (inl h) = inl (h .0)
+first-was l ls refusal place (inr h) = inr h
