@@ -1,13 +1,15 @@
 -- Sentences of document 01 that the promises and the order of checks rest on, in bytes and in numbers: where a point lies, which bytes a position is, when
--- a file passes, and the numbers of each call in their order. So no definition between them and the program can change with it. Assumes nothing.
+-- a file passes, which bases and zones are named, and the numbers of each call in their order. So no definition between them and the program can change
+-- with it. Assumes nothing.
 use mathlib.Core.Path.{_≡_, refl}
 use mathlib.Core.Logic.{_⊎_, inl, inr, _↔_}
+use mathlib.Core.Bool.{true, false}
 use mathlib.Core.List.{List, [], _∷_, _++_}
 use Prim.Native.Nat.{ℕ, zero, suc, _+_, _-_, _*_, _/_, _≤_, _<_}
 use native.Mathlib.Omega.{arith}
 use lib.Dec.{eqb·suc-zero}
 use lib.ListN.{length, getD}
-use Rattle.ground.specs.Boundary.{yB, rows}
+use Rattle.ground.specs.Boundary.{yB, rows, named}
 use Rattle.ground.specs.Place.{number, wordsOf, placeAt, placeOf}
 use Rattle.ground.specs.declared.point.Point.{Point}
 use Rattle.terrain.specs.Bytes.{nth, records}
@@ -117,6 +119,20 @@ module _ (file : List ℕ) where
           },
     )
 
+-- 2: the bases are 0, 4, .. 80 and the zones 1 to 60, tried at the bounds and beside them
+pub named-bounds : (
+    (named 0 1 ≡ true)
+    × (named 80 60 ≡ true)
+    × (named 76 59 ≡ true)
+    × (named 84 60 ≡ false)
+    × (named 80 61 ≡ false)
+    × (named 0 0 ≡ false)
+    × (named 2 1 ≡ false)
+    × (named 79 1 ≡ false)
+    )
+unfolding named
+named-bounds = (refl, refl, refl, refl, refl, refl, refl, refl)
+
 -- Order: 1, 2, 3, then 4 for the first end, 4 for the second, 7, 8, then samples from 0 upward, each tried for 4, 5, 6 in that order, then 9.
 abbrev numbers : List Line → List ℕ
 numbers [] = []
@@ -155,8 +171,3 @@ first-holds l ls refusal place (inr h) c = absurd (h .0 c)
 pub first-fails : (l : Line) (ls : List Line) (refusal place : ℕ) → FirstOf (l ∷ ls) refusal place → (l .condition → ⊥) → FirstOf ls refusal place
 first-fails l ls refusal place (inl h) n = absurd (n (h .0))
 first-fails l ls refusal place (inr h) n = h .1
-
--- and a refusal of the first line says that its condition holds, unless a line after it has the same number
-pub first-was : (l : Line) (ls : List Line) (refusal place : ℕ) → FirstOf (l ∷ ls) refusal place → l .condition ⊎ ((l .condition → ⊥) × FirstOf ls refusal place)
-first-was l ls refusal place (inl h) = inl (h .0)
-first-was l ls refusal place (inr h) = inr h

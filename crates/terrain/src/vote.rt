@@ -41,7 +41,8 @@ fn are_alike(corners: Corners) -> bool
         & (corners.sw.code == corners.nw.code)
 }
 
-// The surface code with the greatest sum of weights, found by adding them up for each code.
+// The surface code with the greatest sum of weights, ties to the smaller code, found by adding the
+// weights up for each code.
 fn tally(corners: Corners) -> u32
     requires { ⌜ Weighed corners ⌝ }
     ensures { λ r. ⌜ r ≡ vote corners ⌝ }
