@@ -9,7 +9,7 @@
 #include <stdlib.h>
 #include <string.h>
 
-/* The files are of base 40 and zone 17, whose ground begins at this easting and northing and has so many rows and columns of rectangles. */
+/* The files are of base 40 and zone 17, whose ground begins at this easting and northing and has these rows and columns of rectangles. */
 #define BASE 40u
 #define ZONE 17u
 #define WEST 125000u
@@ -132,7 +132,7 @@ static struct question long_path(size_t length)
     return (struct question){file, length, BASE, ZONE, first, second, 100, 100};
 }
 
-/* Asks for a check. Here and below the answer's alignment fixes that of the stack, on which the cost of clearing memory depends. */
+/* Asks for a check. In every ask_ function the answer's alignment fixes that of the stack, on which the cost of clearing memory depends. */
 static void ask_check(const struct side *side, const struct question *q, unsigned long times)
 {
     _Alignas(4096) struct janlishuk_check_answer answer = {0};

@@ -19,8 +19,8 @@
  *   1  the length is not 1024 times a number from 6 to 4096
  *   2  the base is not 0, 4, .. 80, or the zone not 1 to 60
  *   3  the index breaks the rules of a file: the highest record number is not from 6 to the record count, or a position holds a number
- *      other than 0 that is below 7, above the highest, in another position too, or where no rectangle is. So it is with a file that has
- *      its name stamped into its first four bytes
+ *      other than 0 that is below 7, above the highest, in another position too, or where no rectangle is. A file with its name
+ *      stamped into its first four bytes breaks them too
  *   4  the point is of another zone, or not on the file's ground; of janlishuk_base: no file has this northing
  *   5  the file does not cover the point's rectangle
  *   6  a corner that weighs in at the point has no height
@@ -158,8 +158,8 @@ struct janlishuk_verdict_answer janlishuk_verdict(const uint8_t *file, size_t le
 struct janlishuk_plan_answer janlishuk_plan(const uint8_t *file, size_t length, uint32_t base, uint32_t zone, struct janlishuk_point first,
                                             struct janlishuk_point second, uint32_t la, uint32_t lb);
 
-/* One sample of a path as the prediction engine takes it. i: the sample, 0 to n. height: in metres, as janlishuk_engine_point gives
- * them, and not in 1/250,000 m. share: its share of the way, i divided once by n. Refusals 1 to 8. */
+/* One sample of a path as the prediction engine takes it. i: the sample, 0 to n. height: in metres, like metres of
+ * janlishuk_engine_point, and not in 1/250,000 m. share: its share of the way, i divided once by n. Refusals 1 to 8. */
 struct janlishuk_engine_row_answer janlishuk_engine_row(const uint8_t *file, size_t length, uint32_t base, uint32_t zone,
                                                         struct janlishuk_point first, struct janlishuk_point second, uint32_t i);
 

@@ -31,7 +31,7 @@ uint32_t between(uint32_t least, uint32_t most)
     return least + below(most - least + 1);
 }
 
-/* True in so many cases of a hundred. */
+/* True in `percent` cases of a hundred. */
 bool chance(uint32_t percent)
 {
     return below(100) < percent;

@@ -28,7 +28,7 @@ static void put(uint8_t *two, uint32_t number)
     two[1] = (uint8_t)(number % 256);
 }
 
-/* Covers the rectangles of a box, all but rectangle 0 and about so many of a hundred. */
+/* Covers the rectangles of a box, but not rectangle 0, nor about `percent_left_out` of a hundred. */
 static void cover_box(struct file *file, struct box box, uint32_t percent_left_out)
 {
     for (uint32_t iy = box.south; iy < box.south + box.rows; iy++)
@@ -120,7 +120,7 @@ static void write_index(struct file *file, uint32_t highest, uint32_t record_of[
     put(file->bytes + 2 * (3072 - 1), highest);
 }
 
-/* A walk up and down from unit line to unit line, by at most so much at each. */
+/* A walk up and down from unit line to unit line, by at most `most` at each. */
 static void walk(int32_t *lines, uint32_t count, int32_t start, uint32_t most)
 {
     lines[0] = start;
@@ -128,7 +128,7 @@ static void walk(int32_t *lines, uint32_t count, int32_t start, uint32_t most)
         lines[k] = lines[k - 1] + (int32_t)below(2 * most + 1) - (int32_t)most;
 }
 
-/* A bowl around a unit line, bent so much that a straight path over it just touches it everywhere: 1/68 m for a unit squared. */
+/* A bowl around a unit line, bent such that a straight path over it just touches it everywhere: 1/68 m for a unit squared. */
 static void bowl(int32_t *lines, uint32_t count, int32_t start, uint32_t middle)
 {
     for (uint32_t k = 0; k < count; k++) {

@@ -21,7 +21,7 @@ static void need(bool done, const char *what)
 }
 
 /* Copies the file into pages of its own and shuts them to writing. Mostly its last byte is the last before the page beyond, and for some
- * files its first byte is the first after the page before; where the length is a multiple of a page, both are so. Some files of no
+ * files its first byte is the first after the page before; where the length is a multiple of a page, both hold. Some files of no
  * bytes are lent as a null pointer. */
 void lend_file(struct file *file)
 {

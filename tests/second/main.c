@@ -89,6 +89,7 @@ static uint64_t number_of(const char *argument)
     return number;
 }
 
+/* Asks COUNT questions, prints what came up, and ends with 1 where something went wrong. */
 int main(int argc, char **argv)
 {
     if (argc > 1)

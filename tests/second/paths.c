@@ -22,8 +22,9 @@ static int64_t draw_between(int64_t least, int64_t most)
     return any;
 }
 
-/* Lays a path that goes so far to the east and north (below 0: west and south) into a box of rectangles; false where it does not fit. */
-bool place_path(struct box box, uint32_t base, uint32_t zone, int64_t de, int64_t dn, struct planted *path)
+/* Lays a path that goes `de` metres east and `dn` metres north (below 0: west and south) into a box of rectangles; false where it does
+ * not fit. */
+bool place_path(struct box box, uint32_t base, uint32_t zone, int64_t de, int64_t dn, struct path *path)
 {
     struct janlishuk_point corner = point_at(base, zone, 100 * box.south + box.west, 0, 0);
     int64_t west = corner.easting + (de < 0 ? -de : 0);
@@ -40,7 +41,7 @@ bool place_path(struct box box, uint32_t base, uint32_t zone, int64_t de, int64_
     return true;
 }
 
-/* A stretch of about so many metres, never more, along an axis or in any direction. */
+/* A stretch of about this many metres, and no more, along an axis or in any direction. */
 static struct stretch of_length(uint32_t metres)
 {
     uint64_t square = (uint64_t)metres * metres;
@@ -107,9 +108,9 @@ static struct stretch turned(struct stretch stretch)
 }
 
 /* A path within the home of the file where one is found that fits, else anywhere on the ground. */
-static struct planted draw_home_path(const struct file *file, uint32_t base, uint32_t zone)
+static struct path draw_home_path(const struct file *file, uint32_t base, uint32_t zone)
 {
-    struct planted path = {0};
+    struct path path = {0};
     for (int tries = 0; tries < 8; tries++) {
         struct stretch stretch = turned(draw_length(file));
         if (place_path(file->home, base, zone, stretch.east, stretch.north, &path))
@@ -122,12 +123,12 @@ static struct planted draw_home_path(const struct file *file, uint32_t base, uin
 }
 
 /* A path for a question: a planted one, one within the home, or one with an end or both of them anywhere. */
-struct planted draw_path(const struct file *file, uint32_t base, uint32_t zone, bool *planted)
+struct path draw_path(const struct file *file, uint32_t base, uint32_t zone, bool *planted)
 {
     *planted = file->planted_count > 0 && chance(20);
     if (*planted)
         return file->planted[below(file->planted_count)];
-    struct planted path = draw_home_path(file, base, zone);
+    struct path path = draw_home_path(file, base, zone);
     if (chance(4))
         path.first = draw_point(file, base, zone);
     if (chance(5))

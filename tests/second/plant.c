@@ -11,10 +11,10 @@ static struct rules_file own(const struct file *file)
 }
 
 /* Remembers a path, from either end. */
-static void remember(struct file *file, struct planted path)
+static void remember(struct file *file, struct path path)
 {
     if (chance(50))
-        path = (struct planted){.first = path.second, .second = path.first, .a = path.b, .b = path.a};
+        path = (struct path){.first = path.second, .second = path.first, .a = path.b, .b = path.a};
     if (file->planted_count < MOST_PLANTED)
         file->planted[file->planted_count++] = path;
 }
@@ -30,7 +30,7 @@ static void plant_tuned(struct file *file)
         uint64_t de = chance(20) ? 0 : below((uint32_t)square_root(longest) + 1);
         uint64_t dn = square_root(longest - de * de);
         uint64_t q = de * de + dn * dn;
-        struct planted path = {.a = mast, .b = mast};
+        struct path path = {.a = mast, .b = mast};
         if (rules_steps(q) != n || rules_bulge(q, n, middle) != (uint64_t)1000 * mast)
             continue;
         if (!place_path(file->home, file->base, file->zone, (int64_t)de, chance(50) ? (int64_t)dn : -(int64_t)dn, &path))
@@ -48,7 +48,7 @@ static void set_elevation(uint8_t *record, uint64_t word, uint64_t elevation)
     two[1] = (uint8_t)(elevation % 256);
 }
 
-/* Makes the ground at a point so high in millimetres, rounded up. The point lies 1 m from a unit line to its north or south: the two words
+/* Makes the ground at a point `millimetres` high, rounded up. The point lies 1 m from a unit line to its north or south: the two words
  * of that line take the whole metres, and the two of the other line, which weigh little, take the rest by being raised. */
 static void raise_ground(struct file *file, struct janlishuk_point point, uint64_t millimetres)
 {
@@ -72,7 +72,7 @@ static void raise_ground(struct file *file, struct janlishuk_point point, uint64
 
 /* The height to which the ground may come at sample i of a path before it is above the line between the masts, in millimetres; below 0
  * where there is none. */
-static int64_t room_below(const struct file *file, const struct planted *path, uint64_t n, uint64_t i)
+static int64_t room_below(const struct file *file, const struct path *path, uint64_t n, uint64_t i)
 {
     struct janlishuk_read_answer first = rules_read(own(file), path->first);
     struct janlishuk_read_answer last = rules_read(own(file), path->second);
@@ -91,7 +91,7 @@ static void plant_ridge(struct file *file)
     uint32_t most = file->home.columns * 15 < 200 ? file->home.columns * 15 : 200;
     uint64_t n = between(2, most);
     uint64_t i = n % 2 == 0 && chance(60) ? n / 2 : between(1, (uint32_t)n - 1);
-    struct planted path = {.a = below(TALLEST + 1)};
+    struct path path = {.a = below(TALLEST + 1)};
     path.b = chance(50) ? path.a : below(TALLEST + 1);
     for (int tries = 0; tries < 20; tries++) {
         if (!place_path(file->home, file->base, file->zone, (int64_t)(500 * n) - below(250), 0, &path))

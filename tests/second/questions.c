@@ -7,7 +7,7 @@ struct rules_file opened(const struct file *file, uint32_t base, uint32_t zone)
     return (struct rules_file){.bytes = file->bytes, .length = file->length, .base = base, .zone = zone};
 }
 
-/* The point so many metres from the south-western corner of a rectangle. */
+/* The point this many metres from the south-western corner of a rectangle. */
 struct janlishuk_point point_at(uint32_t base, uint32_t zone, uint32_t rectangle, uint32_t east, uint32_t north)
 {
     struct janlishuk_point point;
@@ -98,7 +98,7 @@ static uint32_t draw_base(uint32_t own)
     return kind < 92 ? own + (1u << between(8, 31)) : far_number();
 }
 
-/* A zone that need not be one of those named, likewise. */
+/* A zone that need not be one of those named: at a bound or beside it, one below 64, the file's own with a bit above it, or anything. */
 static uint32_t draw_zone(uint32_t own)
 {
     static const uint32_t zones[4] = {0, 1, 60, 61};
@@ -143,7 +143,7 @@ static uint32_t beside(uint32_t mast)
 }
 
 /* Masts for a verdict: those of a planted path or nearly, those of the plan or nearly, or any. */
-static void draw_masts(const struct file *file, struct question *q, struct planted path, bool planted)
+static void draw_masts(const struct file *file, struct question *q, struct path path, bool planted)
 {
     q->a = draw_mast();
     q->b = draw_mast();
@@ -158,7 +158,7 @@ static void draw_masts(const struct file *file, struct question *q, struct plant
 }
 
 /* Mast limits for a plan: mostly the highest, else those of a planted path or nearly, or any. */
-static void draw_limits(struct question *q, struct planted path, bool planted)
+static void draw_limits(struct question *q, struct path path, bool planted)
 {
     q->a = q->b = 100;
     if (planted && chance(40)) {
@@ -208,7 +208,7 @@ struct question draw_question(const struct file *file)
         q.zone = draw_zone(file->zone);
     uint32_t base = q.base <= 80 && q.base % 4 == 0 ? q.base : file->base;
     bool planted = false;
-    struct planted path = {0};
+    struct path path = {0};
     if (q.call == BASE)
         q.first.northing = draw_northing();
     if (q.call == READ || q.call == ENGINE_POINT)

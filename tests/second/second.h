@@ -57,8 +57,8 @@ struct spot {
     uint32_t word;
 };
 
-/* A path made together with the ground below it, and masts with which it touches the ground or nearly does. */
-struct planted {
+/* A path, and masts for it: for a planted one, masts with which it touches the ground or nearly does. */
+struct path {
     struct janlishuk_point first;
     struct janlishuk_point second;
     uint32_t a;
@@ -82,7 +82,7 @@ struct file {
     uint32_t missing_count;
     struct spot missing[MOST_MISSING];
     uint32_t planted_count;
-    struct planted planted[MOST_PLANTED];
+    struct path planted[MOST_PLANTED];
 };
 
 enum call { CHECK, NAME, BASE, READ, ENGINE_POINT, PROFILE, VERDICT, PLAN, ENGINE_ROW, CALLS };
@@ -135,8 +135,8 @@ struct janlishuk_point point_at(uint32_t base, uint32_t zone, uint32_t rectangle
 struct janlishuk_point draw_point(const struct file *file, uint32_t base, uint32_t zone);
 uint32_t other_zone(uint32_t zone);
 struct question draw_question(const struct file *file);
-bool place_path(struct box box, uint32_t base, uint32_t zone, int64_t de, int64_t dn, struct planted *path);
-struct planted draw_path(const struct file *file, uint32_t base, uint32_t zone, bool *planted);
+bool place_path(struct box box, uint32_t base, uint32_t zone, int64_t de, int64_t dn, struct path *path);
+struct path draw_path(const struct file *file, uint32_t base, uint32_t zone, bool *planted);
 
 /* answers.c */
 const char *call_name(enum call call);

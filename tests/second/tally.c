@@ -281,7 +281,7 @@ void print_tally(void)
     }
 }
 
-/* Says that something never came up, and answers whether that is so. A number below 0 is not said. */
+/* Prints that something never came up where its count is 0, and answers whether it did not. A number below 0 is not printed. */
 static bool lacks(uint64_t count, const char *what, const char *which, int number)
 {
     if (count > 0)

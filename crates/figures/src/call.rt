@@ -24,7 +24,7 @@ pub(crate) fn profile(file: &[u8; LENGTH], first: Point, second: Point) -> Profi
     janlishuk::janlishuk_profile(file, BASE, ZONE, first, second)
 }
 
-// Whether that path is clear with both masts of so many metres, or a refusal.
+// Whether the path between two points is clear with two masts of one height, or a refusal.
 pub(crate) fn verdict(
     file: &[u8; LENGTH],
     first: Point,
@@ -34,7 +34,7 @@ pub(crate) fn verdict(
     janlishuk::janlishuk_verdict(file, BASE, ZONE, first, second, mast, mast)
 }
 
-// The masts of that path, both of at most so many metres, or a refusal.
+// The two masts of the path between two points, under one limit for both, or a refusal.
 pub(crate) fn plan(file: &[u8; LENGTH], first: Point, second: Point, limit: u32) -> PlanAnswer {
     janlishuk::janlishuk_plan(file, BASE, ZONE, first, second, limit, limit)
 }

@@ -20,7 +20,7 @@ pub(crate) const WORDS: u32 = 512;
 // The first record after the index.
 pub(crate) const FIRST: u32 = 7;
 
-// The record after that, the last of the file.
+// The second record after the index, the last of the file.
 pub(crate) const SECOND: u32 = 8;
 
 // The byte at which number n of a file starts.
@@ -70,7 +70,7 @@ pub(crate) fn set(file: &mut [u8; LENGTH], r: u32, w: u32, word: u32)
     put(file, WORDS * (r - 1) + w, word);
 }
 
-// Writes so many metres into every word of record r.
+// Writes the elevation, in metres, into every word of record r.
 pub(crate) fn flatten(file: &mut [u8; LENGTH], r: u32, metres: u32)
     requires { ⌜ ((7 ≤ r) × (r ≤ 8)) × (metres ≤ 8190) ⌝ }
 {

@@ -2,12 +2,12 @@
 // as one line.
 mod call;
 mod file;
+mod height;
 mod name;
 mod place;
 mod plan;
 mod point;
-mod profile;
-mod reading;
+mod samples;
 mod say;
 mod verdict;
 
@@ -18,10 +18,10 @@ fn main() {
     place::p3();
     place::p4();
     place::p5();
-    reading::p6();
-    reading::p7();
-    reading::p8();
-    profile::p9();
+    height::p6();
+    height::p7();
+    height::p8();
+    samples::p9();
     verdict::p10();
     plan::p11();
     plan::p12();

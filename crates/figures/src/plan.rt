@@ -14,7 +14,7 @@ const LIMIT: u32 = 100;
 // How far the path over a hill leads, in metres.
 const OVER: u32 = 1000;
 
-// Prints the masts of the path that leads so many metres east, or the refusal.
+// Prints the masts of the path that leads `east` metres to the east, or the refusal.
 fn masts(file: &[u8; LENGTH], east: u32)
     requires { ⌜ east ≤ 14999 ⌝ }
 {
@@ -40,7 +40,7 @@ fn path(before: &[u8], file: &[u8; LENGTH], km: u32)
     masts(file, 1000 * km);
 }
 
-// A file at 0 m but for the second corner, at so many metres: the middle of the path over the hill.
+// A file at 0 m with a hill of `metres` at the second corner, the middle of the path over it.
 fn hill(metres: u32) -> [u8; LENGTH]
     requires { ⌜ metres ≤ 8190 ⌝ }
 {

@@ -7,7 +7,7 @@ use janlishuk::Point;
 // The easting of the south-west corner of rectangle 50.
 pub(crate) const WEST: u32 = 500000;
 
-// The northing of that corner.
+// The northing of the south-west corner of rectangle 50.
 pub(crate) const SOUTH: u32 = 4433000;
 
 // The point at this easting and northing.
@@ -19,7 +19,7 @@ pub(crate) fn at(easting: u32, northing: u32) -> Point {
     }
 }
 
-// The point so many metres east and north of the south-west corner of rectangle 50.
+// The point `east` and `north` metres past the south-west corner of rectangle 50.
 pub(crate) fn past_corner(east: u32, north: u32) -> Point
     requires { ⌜ (east ≤ 14999) × (north ≤ 15499) ⌝ }
 {

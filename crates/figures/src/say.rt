@@ -18,7 +18,7 @@ pub(crate) fn numbers(before: &[u8], first: u32, between: &[u8], second: u32) {
     number(between, second);
 }
 
-// Prints the metres with one decimal place where they are exactly so many tenths, else a question
+// Prints the metres with one decimal place where they are exactly `tenths` / 10, else a question
 // mark.
 pub(crate) fn metres(tenths: u32, metres: f64) {
     if tenths as f64 / 10.0 == metres {

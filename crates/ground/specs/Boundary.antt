@@ -15,10 +15,14 @@ use Rattle.ground.specs.declared.table.Span.{Span}
 unfoldable pub yB : ℕ → Units
 yB b = units (31 * (7 * b + (1000 + (246 + b) * b) / 2000))
 
+-- the last boundary, that of b = 84, in units: no file has a y from here on
+abbrev pub yEnd : ℕ
+yEnd = 18662
+
 -- Table 1: the southern boundaries for b = 0, 4, .. 84, in units
 unfoldable pub table1 : List ℕ
 table1 =
-    0 ∷ 899 ∷ 1767 ∷ 2666 ∷ 3534 ∷ 4433 ∷ 5301 ∷ 6200 ∷ 7068 ∷ 7967 ∷ 8866 ∷ 9734 ∷ 10633 ∷ 11532 ∷ 12400 ∷ 13299 ∷ 14198 ∷ 15097 ∷ 15965 ∷ 16864 ∷ 17763 ∷ 18662 ∷ []
+    0 ∷ 899 ∷ 1767 ∷ 2666 ∷ 3534 ∷ 4433 ∷ 5301 ∷ 6200 ∷ 7068 ∷ 7967 ∷ 8866 ∷ 9734 ∷ 10633 ∷ 11532 ∷ 12400 ∷ 13299 ∷ 14198 ∷ 15097 ∷ 15965 ∷ 16864 ∷ 17763 ∷ yEnd ∷ []
 
 -- the file of base b lies between yB(b) and yB(b+4)
 abbrev pub span : ℕ → Span
@@ -61,6 +65,6 @@ baseAt y = firstSpanning 21 0 y
 abbrev pub baseOf : Metres → Outcome ℕ
 baseOf northing = baseAt (inUnits northing)
 
--- the answer as the caller gets it
+-- the answer of `janlishuk_base` as the caller gets it
 abbrev pub baseAnswer : Outcome ℕ → BaseAnswer
 baseAnswer o = record { refusal = refusalNumber o; place = refusalPlace o; base = filledBy 0 o }

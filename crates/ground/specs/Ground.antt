@@ -19,7 +19,7 @@ groundOf b z = record { zone = z; south = yB b; north = yB (b + 4); rows = rows 
 abbrev pub opened : ℕ → ℕ → Outcome Ground
 opened b z = unless (not (named b z)) 2 (given (groundOf b z))
 
--- what each case of the answer means
+-- what each case of `Opened` means
 abbrev pub openedMeans : Opened → Outcome Ground
 openedMeans (On g) = given g
 openedMeans (Refused number) = refused number 0

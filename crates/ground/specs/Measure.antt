@@ -4,10 +4,11 @@ use Prim.Native.Nat.{ℕ, _/_, _%_}
 use Rattle.ground.specs.declared.measure.Metres.{Metres}
 use Rattle.ground.specs.declared.measure.Units.{Units}
 
--- so many metres, so many units
+-- n metres
 abbrev pub metres : ℕ → Metres
 metres n = record { 0 = n }
 
+-- n units
 abbrev pub units : ℕ → Units
 units n = record { 0 = n }
 

@@ -19,6 +19,6 @@ nameOf b z = 78 ∷ letter b ∷ (48 + z / 10) ∷ (48 + z % 10) ∷ []
 abbrev pub fileName : ℕ → ℕ → Outcome (List ℕ)
 fileName b z = unless (not (named b z)) 2 (given (nameOf b z))
 
--- the answer as the caller gets it
+-- the answer of `janlishuk_name` as the caller gets it
 abbrev pub nameAnswer : Outcome (List ℕ) → NameAnswer
 nameAnswer o = record { refusal = refusalNumber o; place = refusalPlace o; name = filledBy (0 ∷ 0 ∷ 0 ∷ 0 ∷ []) o }

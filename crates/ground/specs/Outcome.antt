@@ -1,5 +1,4 @@
--- What every call comes to, and how an answer shows it. Document 01, "The numbers we say no with".
--- Assumes nothing.
+-- What every call comes to, and how an answer shows it. Document 01, "The numbers we say no with". Assumes nothing.
 use Prim.Native.Nat.{ℕ}
 use mathlib.Core.Bool.{Bool, true, false}
 
@@ -8,7 +7,7 @@ pub data Outcome (A : Type 0) : Type 0 where
   given : A → Outcome A
   refused : ℕ → ℕ → Outcome A
 
--- A line of the order of checks: this number, at place 0, where the condition holds, and else what follows.
+-- A line of the order of checks: the refusal with this number, at place 0, where the condition holds; else what follows.
 abbrev pub unless : {A : Type 0} → Bool → ℕ → Outcome A → Outcome A
 unless true number rest = refused number 0
 unless false number rest = rest
@@ -19,16 +18,17 @@ abbrev pub _andThen_ : {A B : Type 0} → Outcome A → (A → Outcome B) → Ou
 given a andThen f = f a
 refused number place andThen f = refused number place
 
--- What an answer shows: the number and the place, 0 where nothing is refused ..
+-- the number of the refusal, 0 where something is given
 abbrev pub refusalNumber : {A : Type 0} → Outcome A → ℕ
 refusalNumber (given a) = 0
 refusalNumber (refused number place) = number
 
+-- the place of the refusal, 0 where something is given
 abbrev pub refusalPlace : {A : Type 0} → Outcome A → ℕ
 refusalPlace (given a) = 0
 refusalPlace (refused number place) = place
 
--- .. and what is given, or, beside a refusal, what fills the room that no answer fills.
+-- what is given, or, beside a refusal, the value that stands in its place
 abbrev pub filledBy : {A : Type 0} → A → Outcome A → A
 filledBy empty (given a) = a
 filledBy empty (refused number place) = empty

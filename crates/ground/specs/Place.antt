@@ -20,13 +20,9 @@ use Rattle.ground.specs.declared.Located.the-variants.{At, Refused}
 abbrev pub rectangle : ℕ → ℕ → Rectangle
 rectangle Iy Ix = record { iy = Iy; ix = Ix }
 
--- the rectangle so many units east and north of the ground's corner: it is 15 units by 31
+-- the rectangle these units east and north of the ground's corner; one is 15 units by 31
 abbrev pub rectangleAt : Units → Units → Rectangle
 rectangleAt east north = rectangle (north .0 / 31) (east .0 / 15)
-
--- it is 16 by 32 words
-abbrev pub rectangleWords : ℕ
-rectangleWords = 16 * 32
 
 -- rectangle n = 100 Iy + Ix
 abbrev pub number : Rectangle → ℕ
@@ -42,8 +38,8 @@ weightsOf fx fy =
       ne = fx .0 * fy .0;
     }
 
--- The place so many units east and north of the ground's corner, and fx and fy metres past that: wx is what is left of the units east after
--- Ix rectangles of 15, wy of the units north after Iy of 31.
+-- The place these units east and north of the ground's corner, and fx and fy metres past that: wx is what is left of the units east after Ix
+-- rectangles of 15, wy of the units north after Iy of 31.
 unfoldable pub placeAt : Units → Units → Metres → Metres → Place
 placeAt east north fx fy =
     let r : Rectangle = rectangleAt east north in
@@ -77,11 +73,18 @@ wordsOf s = record { sw = word s; se = word s + 1; nw = word s + 16; ne = word s
 abbrev pub located : Ground → Point → Outcome Place
 located g p = unless (not (holds g p)) 4 (given (placeOf g p))
 
--- what each case of the answer means
+-- what each case of `Located` means
 abbrev pub locatedMeans : Located → Outcome Place
 locatedMeans (At s) = given s
 locatedMeans (Refused number) = refused number 0
 
--- position n of the index, for n from 1 to 3072, begins at byte 2 (n - 1) of the file; rectangle 0 has no position
-abbrev pub positionByte : ℕ → ℕ
-positionByte n = 2 * (n - 1)
+-- P holds at each of the four corners
+pub record Each {A : Type 0} (P : A → Type 0) (a b c d : A) : Type 0 where
+  pub sw : P a
+  pub se : P b
+  pub nw : P c
+  pub ne : P d
+
+-- P holds of the word and the weight of each corner
+abbrev pub AtEach : (ℕ → ℕ → Type 0) → Words → Weights → Type 0
+AtEach P w k = Each (λ (x : ℕ × ℕ). P (x .0) (x .1)) (w .sw, k .sw) (w .se, k .se) (w .nw, k .nw) (w .ne, k .ne)

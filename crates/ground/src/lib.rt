@@ -41,7 +41,7 @@ impl Ground {
     // The last easting of the ground, in metres.
     pub const LAST_EASTING: u32 = 874999;
 
-    // The x of its western edge, in units.
+    // The x of the ground's western edge, in units.
     pub const WEST: u32 = 250;
 
     // The ground of the file of a base and a zone, or refusal 2.

@@ -3,9 +3,11 @@
 ghost use mathlib.Core.Path.{_≡_};
 ghost use Rattle.ground.specs.Measure.{inUnits, pastUnit};
 
+// Whole metres.
 #[repr(C)]
 pub struct Metres(pub u32);
 
+// Units of 500 metres.
 #[repr(C)]
 pub struct Units(pub u32);
 

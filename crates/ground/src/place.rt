@@ -22,8 +22,9 @@ pub struct Words {
     pub ne: usize,
 }
 
-// The rectangle, the column wx and row wy of the south-west corner in it, the metres fx and fy past
-// that corner, and the weights.
+// Where a point lies: its rectangle, the column wx and row wy of the south-west corner in it, the
+// metres fx and fy past that corner, and the weights. The place of a refusal is another thing, a
+// sample's number.
 pub struct Place {
     pub rectangle: Rectangle,
     pub wx: Units,
@@ -51,7 +52,7 @@ impl Weights {
 }
 
 impl Place {
-    // The place so many units east and north of the ground's corner, and fx and fy metres past that.
+    // The place these units east and north of the ground's corner, and fx and fy metres past that.
     pub(crate) fn at(east: Units, north: Units, fx: Metres, fy: Metres) -> Place
         requires { ⌜ (fx .0 < 500) × (fy .0 < 500) ⌝ }
         ensures { λ r. ⌜ r ≡ placeAt east north fx fy ⌝ }

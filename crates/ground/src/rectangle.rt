@@ -1,24 +1,25 @@
-// A grid rectangle of a file, by its row Iy and its column Ix.
+// Grid rectangles of a file, their sizes and numbers.
 ghost use mathlib.Core.Path.{_≡_};
-ghost use Rattle.ground.specs.Place.{rectangle, rectangleAt, rectangleWords, number};
+ghost use Rattle.ground.specs.Place.{rectangle, rectangleAt, number};
 use crate::measure::Units;
 
+// A grid rectangle: row Iy and column Ix, both counted from 0.
 pub struct Rectangle {
     pub iy: u32,
     pub ix: u32,
 }
 
 impl Rectangle {
-    // Units from its western edge to its eastern one.
+    // Units from a rectangle's western edge to its eastern one.
     pub const EAST: u32 = 15;
 
-    // Units from its southern edge to its northern one.
+    // Units from a rectangle's southern edge to its northern one.
     pub const NORTH: u32 = 31;
 
-    // Words in a row of it.
+    // Words in a row of a rectangle.
     pub const WIDE: usize = 16;
 
-    // Rows of words in it.
+    // Rows of words in a rectangle.
     pub const HIGH: usize = 32;
 
     // Rectangles in a row of a file.
@@ -31,18 +32,11 @@ impl Rectangle {
         Rectangle { iy, ix }
     }
 
-    // The rectangle that lies so many units east and north of the ground's corner.
+    // The rectangle that lies these units east and north of the ground's corner.
     pub fn at(east: Units, north: Units) -> Rectangle
         ensures { λ r. ⌜ r ≡ rectangleAt east north ⌝ }
     {
         Rectangle::new(north.0 / Rectangle::NORTH, east.0 / Rectangle::EAST)
-    }
-
-    // How many words a rectangle has: 16 by 32.
-    pub fn words() -> usize
-        ensures { λ r. ⌜ r ≡ rectangleWords ⌝ }
-    {
-        Rectangle::WIDE * Rectangle::HIGH
     }
 
     // Its number, n = 100 Iy + Ix.

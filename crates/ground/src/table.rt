@@ -32,10 +32,10 @@ const SOUTHERN: [u32; 22] = [
 ];
 
 // The northern end of the last file, yB(84).
-const END: u32 = 18662;
+const END: u32 = SOUTHERN[21];
 
-// The tallest file, 29 rows of 31 units.
-const TALLEST: u32 = 899;
+// The most units that a file spans from south to north: 29 rows of 31.
+const MOST_UNITS: u32 = 899;
 
 // The answer to a northing: its base, or a refusal.
 #[repr(C)]
@@ -96,7 +96,7 @@ fn base_at(y: Units) -> BaseAnswer
             base: 0,
         };
     }
-    let k = y.0 / TALLEST;
+    let k = y.0 / MOST_UNITS;
     let file = boundaries(k as usize);
     let base = if file.north.0 <= y.0 {
         4 * k + 4

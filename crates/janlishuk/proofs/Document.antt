@@ -1,25 +1,30 @@
--- Sentences of document 01 that the promises and the order of checks rest on, in bytes and in numbers: where a point lies, which bytes a position is, when
--- a file passes, which bases and zones are named, and the numbers of each call in their order. So no definition between them and the program can change
--- with it. Assumes nothing.
-use mathlib.Core.Path.{_≡_, refl}
+-- Sentences of document 01 that the promises and the order of checks rest on, in bytes and in numbers: where a point lies and what its corners weigh, which
+-- bytes a position is, when a file passes, when a rectangle is not covered, which bases and zones are named, and the numbers of each call in their order. They
+-- are stated in bytes and numbers, so that no definition can be wrong in the same way as the program. Assumes nothing.
+use mathlib.Core.Path.{_≡_, refl, _∙_, ap}
 use mathlib.Core.Logic.{_⊎_, inl, inr, _↔_}
 use mathlib.Core.Bool.{true, false}
 use mathlib.Core.List.{List, [], _∷_, _++_}
-use Prim.Native.Nat.{ℕ, zero, suc, _+_, _-_, _*_, _/_, _≤_, _<_}
+use Prim.Native.Nat.{ℕ, zero, suc, _+_, _-_, _*_, _/_, _%_, _≤_, _<_}
 use native.Mathlib.Omega.{arith}
 use lib.Dec.{eqb·suc-zero}
 use lib.ListN.{length, getD}
+use Rattle.ground.specs.Outcome.{given}
 use Rattle.ground.specs.Boundary.{yB, rows, named}
-use Rattle.ground.specs.Place.{number, wordsOf, placeAt, placeOf}
+use Rattle.ground.specs.Place.{number, wordsOf, weightsOf, placeAt, placeOf}
 use Rattle.ground.specs.declared.point.Point.{Point}
-use Rattle.terrain.specs.Bytes.{nth, records}
-use Rattle.terrain.specs.Index.{position, Whole, Passes}
-use Rattle.terrain.specs.Record.{entry}
-use Rattle.janlishuk.specs.Order.{Line, FirstOf, placed, ofFile, ofPoint, ofEnds, ofMasts, ofRow, ofSamples, ofPairs, ofLink}
-use Rattle.link.specs.Path.{Q, N}
+use Rattle.index.specs.Bytes.{nth, records, Whole}
+use Rattle.index.specs.Index.{position, Passes}
+use Rattle.terrain.specs.Record.{entry, taken, Uncovered}
+use Rattle.terrain.specs.declared.record.Taken.{Taken}
+use Rattle.terrain.proofs.Laws.Taken.{taken-own, uncovered-is}
+use Rattle.path.specs.Path.{Q, N, farthest, tallest}
+use Rattle.path.proofs.Laws.Path.{farthest-is}
+use Rattle.janlishuk.specs.Order.{Line, FirstOf, placed, ofFile, ofName, ofNorthing, ofPoint, ofEnds, ofMasts, ofRow, ofSamples, ofPairs, ofLink}
 
--- With x = E / 500, y = N / 500 truncated: Iy = (y - yB) / 31, Ix = (x - 250) / 15, rectangle n = 100 Iy + Ix; wx = x - 250 - 15 Ix,
--- wy = y - yB - 31 Iy, word w = 16 wy + wx + 1, and the corners are words w, w+1, w+16, w+17.
+-- "With x = E / 500, y = N / 500 truncated: Iy = (y - yB) / 31, Ix = (x - 250) / 15, rectangle n = 100 Iy + Ix. In it wx = x - 250 - 15 Ix,
+-- wy = y - yB - 31 Iy, word w = 16 wy + wx + 1. The corners are words w, w+1, w+16, w+17." "fx = E mod 500, fy = N mod 500. Weights: SW (500-fx)(500-fy),
+-- SE fx(500-fy), NW (500-fx)fy, NE fx fy."
 module _ (b z : ℕ) (p : Point) where
   abbrev x : ℕ
   x = p .easting .0 / 500
@@ -36,6 +41,12 @@ module _ (b z : ℕ) (p : Point) where
   abbrev w : ℕ
   w = 16 * (y - yB b .0 - 31 * Iy) + (x - 250 - 15 * Ix) + 1
 
+  abbrev fx : ℕ
+  fx = p .easting .0 % 500
+
+  abbrev fy : ℕ
+  fy = p .northing .0 % 500
+
   pub rectangle-number : number (placed b z p .rectangle) ≡ 100 * Iy + Ix
   unfolding placeOf placeAt
   rectangle-number = refl
@@ -44,7 +55,17 @@ module _ (b z : ℕ) (p : Point) where
   unfolding placeOf placeAt
   corner-words = refl
 
--- Positions are 16-bit numbers from 1, high byte first, and position n holds the record number for rectangle n.
+  pub past-corner : (placed b z p .fx .0 ≡ fx) × (placed b z p .fy .0 ≡ fy)
+  unfolding placeOf placeAt
+  past-corner = (refl, refl)
+
+  pub corner-weights : placed b z p .weights
+      ≡ record { sw = (500 - fx) * (500 - fy); se = fx * (500 - fy); nw = (500 - fx) * fy; ne = fx * fy }
+  unfolding placeOf placeAt weightsOf
+  corner-weights = refl
+
+-- "Records 1 to 6 are the index: 3072 16-bit positions, numbered from 1. Position n holds the record number for rectangle n, 0 if not covered. Rectangle 0 has no
+-- position and is never covered." "House: numbers are high byte first."
 module _ (file : List ℕ) where
   abbrev at : ℕ → ℕ
   at n = 256 * getD file (2 * (n - 1)) 0 + getD file (2 * (n - 1) + 1) 0
@@ -61,6 +82,20 @@ module _ (file : List ℕ) where
   unfolding entry nth
   own-position zero h = absurd (omega arith)
   own-position (suc n) h = rw eqb·suc-zero
+
+  -- 5: no record is taken for a point exactly if its rectangle is rectangle 0, or its position holds 0
+  pub uncovered-means : (b z : ℕ) (p : Point) →
+      let n = 100 * Iy b z p + Ix b z p in Uncovered file (placed b z p) ↔ ((n ≡ 0) ⊎ (at n ≡ 0))
+  unfolding nth placeOf placeAt
+  uncovered-means b z p = uncovered-is file (placed b z p)
+
+  -- a point is read where it lies, from the record that its own rectangle's position names
+  pub taken-means : (b z : ℕ) (p : Point) (t : Taken) → taken file (placed b z p) ≡ given t
+      → (t .place ≡ placed b z p) × (t .entry ≡ entry file (100 * Iy b z p + Ix b z p))
+  unfolding placeOf placeAt
+  taken-means b z p t e =
+      let own = taken-own file (placed b z p) t e .1 in
+      (ap (λ (u : Taken). u .place) own, ap (λ (u : Taken). u .entry) own)
 
   -- 1: length not 1024 times a number from 6 to 4096
   pub record Long : Type 0 where
@@ -133,15 +168,41 @@ pub named-bounds : (
 unfolding named
 named-bounds = (refl, refl, refl, refl, refl, refl, refl, refl)
 
--- Order: 1, 2, 3, then 4 for the first end, 4 for the second, 7, 8, then samples from 0 upward, each tried for 4, 5, 6 in that order, then 9.
+-- the numbers that have a name, in document 01's digits: Q of 100 km, and 100 m of mast. Where the last file ends, y = 18,662, is in the table.
+pub named-numbers : (farthest ≡ 10000000000) × (tallest ≡ 100)
+named-numbers = (farthest-is, refl)
+
+-- the numbers of lines, in their order
 abbrev numbers : List Line → List ℕ
 numbers [] = []
 numbers (l ∷ ls) = l .number ∷ numbers ls
 
+-- the places of lines, in their order
 abbrev places : List Line → List ℕ
 places [] = []
 places (l ∷ ls) = l .place ∷ places ls
 
+-- lines one after the other
+numbers-append : (ls ms : List Line) → numbers (ls ++ ms) ≡ (numbers ls ++ numbers ms)
+numbers-append [] ms = refl
+numbers-append (l ∷ ls) ms = ap (λ ns. l .number ∷ ns) (numbers-append ls ms)
+
+places-append : (ls ms : List Line) → places (ls ++ ms) ≡ (places ls ++ places ms)
+places-append [] ms = refl
+places-append (l ∷ ls) ms = ap (λ ns. l .place ∷ ns) (places-append ls ms)
+
+-- 4, 5, 6 for each of k samples
+abbrev fours : ℕ → List ℕ
+fours zero = []
+fours (suc i) = fours i ++ (4 ∷ 5 ∷ 6 ∷ [])
+
+-- the sample's number for each of them
+abbrev thrice : ℕ → List ℕ
+thrice zero = []
+thrice (suc i) = thrice i ++ (i ∷ i ∷ i ∷ [])
+
+-- "Order: 1, 2, 3, then 4 for the first end, 4 for the second, 7, 8, then samples from 0 upward, each tried for 4, 5, 6 in that order, then 9." "The place is the
+-- sample number for refusals met at samples, else 0."
 module _ (file : List ℕ) (b z : ℕ) (p q : Point) (ma mb i : ℕ) where
   abbrev before-samples : List Line → List ℕ
   before-samples eight = numbers (ofFile file b z ++ (ofEnds b z p q ++ eight))
@@ -152,22 +213,45 @@ module _ (file : List ℕ) (b z : ℕ) (p q : Point) (ma mb i : ℕ) where
     pub masts : before-samples (ofMasts ma mb) ≡ (1 ∷ 2 ∷ 3 ∷ 4 ∷ 4 ∷ 7 ∷ 8 ∷ [])
     pub row : before-samples (ofRow p q i) ≡ (1 ∷ 2 ∷ 3 ∷ 4 ∷ 4 ∷ 7 ∷ 8 ∷ [])
     pub link : (eight : List Line) → ofLink eight file b z p q ≡ (ofFile file b z ++ ((ofEnds b z p q ++ eight) ++ ofSamples file b z p q (N (Q p q) + 1)))
-    pub samples : numbers (ofSamples file b z p q 3) ≡ (4 ∷ 5 ∷ 6 ∷ 4 ∷ 5 ∷ 6 ∷ 4 ∷ 5 ∷ 6 ∷ [])
-    pub sample-places : places (ofSamples file b z p q 3) ≡ (0 ∷ 0 ∷ 0 ∷ 1 ∷ 1 ∷ 1 ∷ 2 ∷ 2 ∷ 2 ∷ [])
-    pub pairs : numbers (ofPairs file b z p q ma mb) ≡ (9 ∷ [])
+    pub samples : (k : ℕ) → (numbers (ofSamples file b z p q k) ≡ fours k) × (places (ofSamples file b z p q k) ≡ thrice k)
+    pub before : places (ofFile file b z ++ (ofEnds b z p q ++ ofMasts ma mb)) ≡ (0 ∷ 0 ∷ 0 ∷ 0 ∷ 0 ∷ 0 ∷ 0 ∷ [])
+    pub before-row : places (ofRow p q i) ≡ (0 ∷ [])
+    pub pairs : (numbers (ofPairs file b z p q ma mb) ≡ (9 ∷ [])) × (places (ofPairs file b z p q ma mb) ≡ (0 ∷ []))
+    pub name : (numbers (ofName b z) ≡ (2 ∷ [])) × (places (ofName b z) ≡ (0 ∷ []))
+    pub base : (numbers (ofNorthing i) ≡ (4 ∷ [])) × (places (ofNorthing i) ≡ (0 ∷ []))
+
+  at-samples : (k : ℕ) → (numbers (ofSamples file b z p q k) ≡ fours k) × (places (ofSamples file b z p q k) ≡ thrice k)
+  unfolding ofSamples
+  at-samples zero = (refl, refl)
+  at-samples (suc k) =
+      let before = at-samples k in (
+        numbers-append (ofSamples file b z p q k) _ ∙ ap (λ ns. ns ++ (4 ∷ 5 ∷ 6 ∷ [])) (before .0),
+        places-append (ofSamples file b z p q k) _ ∙ ap (λ ns. ns ++ (k ∷ k ∷ k ∷ [])) (before .1),
+      )
 
   pub in-document-order : InDocumentOrder
-  unfolding ofSamples
   in-document-order =
-      record { read = refl; profile = refl; masts = refl; row = refl; link = λ eight. refl; samples = refl; sample-places = refl; pairs = refl }
+      record {
+        read = refl;
+        profile = refl;
+        masts = refl;
+        row = refl;
+        link = λ eight. refl;
+        samples = at-samples;
+        before = refl;
+        before-row = refl;
+        pairs = (refl, refl);
+        name = (refl, refl);
+        base = (refl, refl);
+      }
 
--- "Each number is given exactly when its condition is the first to hold": where the first line's condition holds, its number and place are given, and
--- where it does not, those of the lines after it.
+-- "Each number is given exactly when its condition is the first to hold": where the first line's condition holds, its number and place are given
 pub first-holds : (l : Line) (ls : List Line) (refusal place : ℕ) → FirstOf (l ∷ ls) refusal place → l .condition
     → (refusal ≡ l .number) × (place ≡ l .place)
 first-holds l ls refusal place (inl h) c = h .1
 first-holds l ls refusal place (inr h) c = absurd (h .0 c)
 
+-- where it does not hold, the number and place of the lines after it are given
 pub first-fails : (l : Line) (ls : List Line) (refusal place : ℕ) → FirstOf (l ∷ ls) refusal place → (l .condition → ⊥) → FirstOf ls refusal place
 first-fails l ls refusal place (inl h) n = absurd (n (h .0))
 first-fails l ls refusal place (inr h) n = h .1

@@ -1,12 +1,12 @@
--- What an answer that is given holds, in document 01's letters and in the caller's own fields, of the calls that the demands do not spell out: M, the name,
--- the base, the record, the engine's point and its rows. From the laws of the rooms and of the order of checks. Assumes nothing.
+-- What an answer that is given holds, in document 01's letters and in the caller's own fields, of the calls that the demands do not spell out: M, the name, the
+-- base, the record, the engine's point and its rows. From the laws of the crates and of the order of checks. Assumes nothing.
 use mathlib.Core.Path.{_≡_, refl, sym, _∙_, ap}
 use mathlib.Core.Logic.{_⊎_, ⊎-elim}
 use mathlib.Core.Bool.{true, not, _||_}
 use mathlib.Core.List.{List, [], _∷_}
 use Prim.Native.Nat.{ℕ, _+_, _-_, _*_, _/_, _%_, _≤_, _<_}
 use lib.Dec.{eqb}
-use lib.ListN.{length, getD}
+use lib.ListN.{getD}
 use lib.IntN.{pos}
 use lib.Ieee.{Float, binary64, ofInt, div}
 use borrow.Author.Tests.{ne-eqb}
@@ -15,40 +15,44 @@ use Rattle.ground.specs.Outcome.{Outcome, given, refused}
 use Rattle.ground.specs.Measure.{metres, inUnits}
 use Rattle.ground.specs.Boundary.{named, yB}
 use Rattle.ground.specs.Name.{nameOf}
-use Rattle.ground.specs.Place.{number}
 use Rattle.ground.specs.declared.point.Point.{Point}
 use Rattle.ground.specs.declared.name.NameAnswer.{NameAnswer}
 use Rattle.ground.specs.declared.table.BaseAnswer.{BaseAnswer}
 use Rattle.ground.proofs.Laws.Outcome.{past, step}
 use Rattle.ground.proofs.Laws.Boundary.{base-spans}
-use Rattle.terrain.specs.Bytes.{nth, recordBytes}
+use Rattle.index.specs.Bytes.{nth}
+use Rattle.index.proofs.Laws.Bytes.{record-byte}
 use Rattle.terrain.specs.Check.{checked}
-use Rattle.terrain.specs.Record.{entry, Taken, recordIn, recordFor}
-use Rattle.terrain.specs.Reading.{reading}
-use Rattle.terrain.specs.Engine.{metresOf}
+use Rattle.terrain.specs.Record.{recordIn, recordFor}
 use Rattle.terrain.specs.declared.check.CheckAnswer.{CheckAnswer}
-use Rattle.terrain.specs.declared.reading.ReadAnswer.{ReadAnswer}
-use Rattle.terrain.specs.declared.reading.Reading.{Reading}
-use Rattle.terrain.specs.declared.engine.EnginePoint.{EnginePoint}
-use Rattle.terrain.specs.declared.engine.EnginePoint.the-variants as point
+use Rattle.terrain.specs.declared.record.Taken.{Taken}
 use Rattle.terrain.proofs.Laws.Checked.{checked-is}
-use Rattle.terrain.proofs.Laws.Means.{engine-once, record-given}
-use Rattle.link.specs.Profile.{profileAnswer}
-use Rattle.link.specs.Row.{rowAnswer}
-use Rattle.link.specs.declared.profile.ProfileAnswer.{ProfileAnswer}
-use Rattle.link.specs.declared.row.RowAnswer.{RowAnswer}
-use Rattle.link.proofs.Laws.Link.{profile-at}
-use Rattle.link.proofs.Laws.Demands.{row-given}
-use Rattle.janlishuk.specs.Order.{placed}
+use Rattle.terrain.proofs.Laws.Taken.{record-is}
+use Rattle.terrain.proofs.Laws.Means.{record-given}
+use Rattle.reading.specs.Reading.{reading}
+use Rattle.reading.specs.Engine.{metresOf}
+use Rattle.reading.specs.declared.point.ReadAnswer.{ReadAnswer}
+use Rattle.reading.specs.declared.point.Reading.{Reading}
+use Rattle.reading.specs.declared.engine.EnginePoint.{EnginePoint}
+use Rattle.reading.specs.declared.engine.EnginePoint.the-variants as point
+use Rattle.reading.proofs.Laws.Means.{engine-once}
+use Rattle.profile.specs.Profile.{profileAnswer}
+use Rattle.profile.specs.Row.{rowAnswer}
+use Rattle.profile.specs.declared.ProfileAnswer.{ProfileAnswer}
+use Rattle.profile.specs.declared.row.RowAnswer.{RowAnswer}
+use Rattle.profile.proofs.Laws.Link.{profile-at}
+use Rattle.profile.proofs.Laws.Row.{row-given}
 use Rattle.janlishuk.specs.Promise.{Checks, Names, FindsBase, Reads, HandsBack, Tells, Shows, Profiles, GivesRow}
+use Rattle.janlishuk.specs.Demand.{IsRecord}
 use Rattle.janlishuk.specs.declared.point.EngineAnswer.{EngineAnswer}
 use Rattle.janlishuk.proofs.Laws.Line.{was-given}
-use Rattle.janlishuk.proofs.Laws.Order.{record-is, opened, file-order, name-order, base-order, reading-order, profile-order}
+use Rattle.janlishuk.proofs.Laws.Order.{taken-at, file-order, name-order, base-order, reading-order, profile-order}
 
--- a whole number as a double; a height in metres is the exact sum divided once by 250,000
+-- a whole number as a double
 abbrev double : ℕ → Float
 double m = ofInt binary64 (pos m)
 
+-- an exact height in metres: divided once by 250,000
 abbrev inMetres : ℕ → Float
 inMetres height = div binary64 (double height) (double 250000)
 
@@ -75,19 +79,22 @@ module _ (file after : List ℕ) (b z : ℕ) where
       let i : nameOf b z ≡ t .0 = cc (v .1) in
       rw (h, t .1) (sym i)
 
-  -- A point that is read answers for the engine as water where its code is 3 or 6, and else as land, with its code and its metres.
+  -- A point that is read answers for the engine as water where its code is 3 or 6, and else as land, with its code and its metres:
   module _ (p : Point) (s : ReadAnswer) (reads : Reads file after b z p s) (is : s .refusal ≡ 0) where
     read : (r : Reading) × (reading file b z p ≡ given r)
     read = was-given (reading-order file b z p) (rw (reads .0) at is)
 
+    -- the test for water
     water : (k : ℕ) → (k ≡ 3) ⊎ (k ≡ 6) → (eqb k 3 || eqb k 6) ≡ true
     water k = ⊎-elim (λ e. simp e) (λ e. simp e)
 
+    -- water, as a struct
     pub water-struct : (s .code ≡ 3) ⊎ (s .code ≡ 6) → (r : EngineAnswer) → Shows file after b z p r
         → r ≡ record { refusal = 0; place = 0; kind = 2; code = s .code; metres = inMetres (s .height) }
     unfolding metresOf
     water-struct c r h = let d = rw (reads .0, read .1) at c in rw (h .0, reads .0, read .1, water _ d)
 
+    -- land, as a struct
     pub land-struct : (s .code ≡ 3 → ⊥) → (s .code ≡ 6 → ⊥) → (r : EngineAnswer) → Shows file after b z p r
         → r ≡ record { refusal = 0; place = 0; kind = 1; code = s .code; metres = inMetres (s .height) }
     unfolding metresOf
@@ -96,12 +103,14 @@ module _ (file after : List ℕ) (b z : ℕ) where
         let d = rw (reads .0, read .1) at d in
         rw (h .0, reads .0, read .1, ne-eqb (read .0 .code) 3 c, ne-eqb (read .0 .code) 6 d)
 
+    -- water, as an enum
     pub water-enum : (s .code ≡ 3) ⊎ (s .code ≡ 6) → (r : EnginePoint) → Tells file after b z p r → r ≡ point.Water (inMetres (s .height)) (s .code)
     unfolding metresOf
     water-enum c r h =
         let d = rw (reads .0, read .1) at c in
         engine-once r (point.Water (inMetres (s .height)) (s .code)) (rw (h .0, reads .0, read .1, water _ d))
 
+    -- land, as an enum
     pub land-enum : (s .code ≡ 3 → ⊥) → (s .code ≡ 6 → ⊥) → (r : EnginePoint) → Tells file after b z p r
         → r ≡ point.Land (inMetres (s .height)) (s .code)
     unfolding metresOf
@@ -110,10 +119,10 @@ module _ (file after : List ℕ) (b z : ℕ) where
         let d = rw (reads .0, read .1) at d in
         engine-once r (point.Land (inMetres (s .height)) (s .code)) (rw (h .0, reads .0, read .1, ne-eqb (read .0 .code) 3 c, ne-eqb (read .0 .code) 6 d))
 
-  -- An engine row holds two doubles: the height in metres, and the share of the way, i divided once by N.
+  -- an engine row holds two doubles: the height in metres, and the share of the way, i divided once by N
   pub row-holds : (p q : Point) (pr : ProfileAnswer) → Profiles file after b z p q pr → pr .refusal ≡ 0 → (i : ℕ) → i ≤ pr .n
       → (r : RowAnswer) → GivesRow file after b z p q i r
-      → r ≡ record { refusal = 0; place = 0; height = inMetres (getD (pr .heights) i 0); share = div binary64 (double i) (double (pr .n)) }
+      → r ≡ record { refusal = 0; place = 0; row = record { height = inMetres (getD (pr .heights) i 0); share = div binary64 (double i) (double (pr .n)) } }
   unfolding metresOf
   row-holds p q pr profiles is i l r h =
       let t = was-given (profile-order file b z p q) (rw (profiles .0) at is) in
@@ -122,29 +131,21 @@ module _ (file after : List ℕ) (b z : ℕ) where
       let k = rw (shown, steps) at l in
       rw (shown, steps) (h .0 ∙ ap rowAnswer (row-given file b z p q (t .0) (t .1) i k))
 
--- A record that is handed back is that of the point's own rectangle: 1024 bytes of the caller's file, from byte 1024 (r - 1) on.
-module _ (f g r : RefT (List ℕ)) (b z : ℕ) (p : Point) (hands : HandsBack f g b z p r) where
-  abbrev record-number : ℕ
-  record-number = entry (f .now) (number (placed b z p .rectangle))
-
-  pub record OwnRecord : Type 0 where
-    pub long : length (r .now) ≡ 1024
-    pub bytes : r .now ≡ recordBytes (f .now) record-number
-    pub block : r .ptr .0 ≡ f .ptr .0
-    pub start : r .ptr .1 ≡ 1024 * (record-number - 1) + f .ptr .1
-
-  pub own-record : (r .now ≡ [] → ⊥) → OwnRecord
-  unfolding recordFor
-  own-record some = go (recordFor (f .now) b z p) refl
-    where
-      go : (o : Outcome Taken) → recordFor (f .now) b z p ≡ o → OwnRecord
-      go (given t) e =
-          let c = step (checked (f .now) b z) (λ u. recordIn (f .now) u p) t e in
-          let i = record-is (f .now) b z (c .value) (opened (f .now) b z p (c .value) (c .gave)) p t (c .then) in
-          record {
-            long = rw (hands .0 .bytes, e) (record-given (f .now) b z p t e);
-            bytes = rw (hands .0 .bytes, e, i);
-            block = hands .0 .block;
-            start = rw (hands .0 .start, e, i);
-          }
-      go (refused number place) e = absurd (some (rw (hands .0 .bytes, e)))
+-- a record that is handed back is that of the rectangle taken
+pub record-is-taken : (f g r : RefT (List ℕ)) (b z : ℕ) (p : Point) → HandsBack f g b z p r → (r .now ≡ [] → ⊥) → IsRecord f r b z p
+unfolding recordFor
+record-is-taken f g r b z p hands some = go (recordFor (f .now) b z p) refl
+  where
+    go : (o : Outcome Taken) → recordFor (f .now) b z p ≡ o → IsRecord f r b z p
+    go (given t) e =
+        let c = step (checked (f .now) b z) (λ u. recordIn (f .now) u p) t e in
+        record {
+          source = t;
+          taken = taken-at (f .now) b z (c .value) (c .gave) p t (c .then) .1;
+          named = record-is (record { base = b; zone = z; gave = c .gave }) p t (c .then) .entry;
+          long = rw (hands .0 .bytes, e) (record-given (f .now) b z p t e);
+          byte = λ k h. rw (hands .0 .bytes, e) (record-byte (f .now) (t .entry) k h);
+          block = hands .0 .block;
+          start = rw (hands .0 .start, e);
+        }
+    go (refused number place) e = absurd (some (rw (hands .0 .bytes, e)))

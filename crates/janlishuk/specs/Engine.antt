@@ -4,7 +4,7 @@ use Prim.Native.Nat.{ℕ}
 use lib.IntN.{pos}
 use lib.Ieee.{binary64, ofInt}
 use Rattle.ground.specs.Outcome.{Outcome, given, _andThen_, refusalNumber, refusalPlace, filledBy}
-use Rattle.terrain.specs.Engine.{EngineValues}
+use Rattle.reading.specs.Engine.{EngineValues}
 use Rattle.janlishuk.specs.declared.point.EngineAnswer.{EngineAnswer}
 
 -- the kind of a point that is read: land is 1, water 2 (house)

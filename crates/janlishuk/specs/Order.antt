@@ -1,24 +1,22 @@
--- Document 01, "The numbers we say no with": the numbers of each call in its order of checks, each with its condition in the document's words, and what
--- it means that a refusal is that of the first condition to hold. That the promises keep this order is shown in proofs/Demands.antt. Assumes nothing.
+-- Document 01, "The numbers we say no with": the numbers of each call in its order of checks, each with its condition in the document's words, and what it
+-- means that a refusal is that of the first condition to hold. That the promises keep this order is shown in proofs/Calls.antt. Assumes nothing.
 use mathlib.Core.Path.{_≡_}
 use mathlib.Core.Logic.{_⊎_}
 use mathlib.Core.Bool.{true}
 use mathlib.Core.List.{List, [], _∷_, _++_}
 use Prim.Native.Nat.{ℕ, zero, suc, _+_, _*_, _/_, _≤_, _<_}
-use Rattle.ground.specs.Boundary.{yB, rows}
+use Rattle.ground.specs.Outcome.{given}
+use Rattle.ground.specs.Boundary.{yB, yEnd, rows}
 use Rattle.ground.specs.Ground.{groundOf}
-use Rattle.ground.specs.Place.{number, wordsOf, placeOf}
+use Rattle.ground.specs.Place.{placeOf}
 use Rattle.ground.specs.declared.point.Point.{Point}
 use Rattle.ground.specs.declared.place.Place.{Place}
-use Rattle.ground.specs.declared.place.Words.{Words}
-use Rattle.ground.specs.declared.place.Weights.{Weights}
-use Rattle.terrain.specs.Bytes.{nth, recordBytes}
-use Rattle.terrain.specs.Index.{position, Whole, Passes}
-use Rattle.terrain.specs.Record.{entry}
-use Rattle.terrain.specs.Corner.{elevationOf}
-use Rattle.link.specs.Path.{Q, N, pathOf, sample}
+use Rattle.index.specs.Bytes.{Whole}
+use Rattle.index.specs.Index.{Passes}
+use Rattle.terrain.specs.Record.{Uncovered}
+use Rattle.reading.specs.Demand.{SomeLacks}
+use Rattle.path.specs.Path.{Q, N, pathOf, sample, farthest}
 use Rattle.link.specs.Clear.{verdict}
-use Rattle.ground.specs.Outcome.{given}
 
 -- a line of the order: a number, the place that it is met at, and the condition that it is given for
 pub record Line : Type 1 where
@@ -37,7 +35,7 @@ abbrev pub SomeOf : List Line → Type 0
 SomeOf [] = ⊥
 SomeOf (l ∷ ls) = l .condition ⊎ SomeOf ls
 
--- The place is the sample number for refusals met at samples, else 0.
+-- a number that is met at no sample: its place is 0
 abbrev no : ℕ → Type 0 → Line
 no number condition = record { number = number; place = 0; condition = condition }
 
@@ -60,48 +58,39 @@ pub record OnGround (b z : ℕ) (p : Point) : Type 0 where
 abbrev pub placed : ℕ → ℕ → Point → Place
 placed b z p = placeOf (groundOf b z) p
 
--- a corner that weighs in has no height
-abbrev LacksAt : List ℕ → ℕ → ℕ → Type 0
-LacksAt bytes w weight = (0 < weight) × (elevationOf (nth bytes w) ≡ 8191)
-
-abbrev pub SomeLacks : List ℕ → Words → Weights → Type 0
-SomeLacks bytes w k = (LacksAt bytes (w .sw) (k .sw) ⊎ LacksAt bytes (w .se) (k .se)) ⊎ (LacksAt bytes (w .nw) (k .nw) ⊎ LacksAt bytes (w .ne) (k .ne))
-
 -- 1, 2, 3 of a file
 abbrev pub ofFile : List ℕ → ℕ → ℕ → List Line
 ofFile file b z = no 1 (Whole file → ⊥) ∷ no 2 (IsNamed b z → ⊥) ∷ no 3 (Passes file (rows b) → ⊥) ∷ []
 
--- the file name gives only 2; finding a base from a northing gives only 4, from y = 18,662
+-- 2 of a file name
 abbrev pub ofName : ℕ → ℕ → List Line
 ofName b z = no 2 (IsNamed b z → ⊥) ∷ []
 
+-- 4 of a northing, from y = 18,662
 abbrev pub ofNorthing : ℕ → List Line
-ofNorthing northing = no 4 (18662 ≤ northing / 500) ∷ []
+ofNorthing northing = no 4 (yEnd ≤ northing / 500) ∷ []
 
--- 4, 5 of the record that a point is read from, and 6 of the point: as a point alone, or as a sample. A rectangle is not covered if it is rectangle 0,
--- which has no position, or its position holds 0.
-abbrev pub ofRecord : List ℕ → ℕ → ℕ → (place : ℕ) → Point → List Line
-ofRecord file b z place p =
-    let n : ℕ = number (placed b z p .rectangle) in
-    record { number = 4; place = place; condition = OnGround b z p → ⊥ }
-    ∷ record { number = 5; place = place; condition = (n ≡ 0) ⊎ (position file n ≡ 0) }
+-- 4, 5 of the record that a point is read from
+abbrev pub ofRecord : List ℕ → ℕ → ℕ → (i : ℕ) → Point → List Line
+ofRecord file b z i p =
+    record { number = 4; place = i; condition = OnGround b z p → ⊥ }
+    ∷ record { number = 5; place = i; condition = Uncovered file (placed b z p) }
     ∷ []
 
-abbrev pub ofPoint : List ℕ → ℕ → ℕ → (place : ℕ) → Point → List Line
-ofPoint file b z place p =
-    let s : Place = placed b z p in
-    ofRecord file b z place p
-    ++ (record { number = 6; place = place; condition = SomeLacks (recordBytes file (entry file (number (s .rectangle)))) (wordsOf s) (s .weights) } ∷ [])
+-- 4, 5, 6 of a point: a point alone, with i = 0, or sample i
+abbrev pub ofPoint : List ℕ → ℕ → ℕ → (i : ℕ) → Point → List Line
+ofPoint file b z i p = ofRecord file b z i p ++ (record { number = 6; place = i; condition = SomeLacks file (placed b z p) } ∷ [])
 
 -- 4 for the first end, 4 for the second, 7
 abbrev pub ofEnds : ℕ → ℕ → Point → Point → List Line
 ofEnds b z p q =
-    no 4 (OnGround b z p → ⊥) ∷ no 4 (OnGround b z q → ⊥) ∷ no 7 ((Q p q ≡ 0) ⊎ (10000000000 < Q p q)) ∷ []
+    no 4 (OnGround b z p → ⊥) ∷ no 4 (OnGround b z q → ⊥) ∷ no 7 ((Q p q ≡ 0) ⊎ (farthest < Q p q)) ∷ []
 
--- 8: a mast or mast limit above 100, or an engine row asked for a sample above N
+-- 8: a mast or mast limit above 100
 abbrev pub ofMasts : ℕ → ℕ → List Line
 ofMasts ma mb = no 8 ((100 < ma) ⊎ (100 < mb)) ∷ []
 
+-- 8: an engine row asked for a sample above N
 abbrev pub ofRow : Point → Point → ℕ → List Line
 ofRow p q i = no 8 (N (Q p q) < i) ∷ []
 
@@ -114,6 +103,6 @@ ofSamples file b z p q (suc i) = ofSamples file b z p q i ++ ofPoint file b z i 
 abbrev pub ofPairs : List ℕ → ℕ → ℕ → Point → Point → ℕ → ℕ → List Line
 ofPairs file b z p q la lb = no 9 ((ma mb : ℕ) → ma ≤ la → mb ≤ lb → verdict file b z p q ma mb ≡ given true → ⊥) ∷ []
 
--- Order: 1, 2, 3, then 4 for the first end, 4 for the second, 7, then 8 where it has a place in the call, then the samples.
+-- a call on a path: 1, 2, 3, then 4 for the first end, 4 for the second, 7, then 8 where it has a place in the call, then the samples
 abbrev pub ofLink : List Line → List ℕ → ℕ → ℕ → Point → Point → List Line
 ofLink eight file b z p q = ofFile file b z ++ ((ofEnds b z p q ++ eight) ++ ofSamples file b z p q (N (Q p q) + 1))

@@ -1,13 +1,13 @@
 // The calls on a point of a file: its reading, its record, and the point for the prediction engine.
 ghost use Rattle.janlishuk.specs.Promise.{Reads, HandsBack, Tells, Shows};
 use ground::point::Point;
-use terrain::engine::EnginePoint;
-use terrain::reading::ReadAnswer;
+use reading::engine::EnginePoint;
+use reading::point::ReadAnswer;
 
-// A point that the engine takes as land.
+// The kind of a point that the engine takes as land.
 const LAND: u32 = 1;
 
-// A point that the engine takes as water.
+// The kind of a point that the engine takes as water.
 const WATER: u32 = 2;
 
 // The point for the engine: its kind, 1 land or 2 water, its code, and its height or level in metres;
@@ -26,7 +26,7 @@ pub struct EngineAnswer {
 pub extern "C" fn janlishuk_read(file: &[u8], base: u32, zone: u32, point: Point) -> ReadAnswer
     ensures { λ r. ⌜ Reads (now (file .entry)) (now (file .exit)) base zone point r ⌝ }
 {
-    terrain::reading::read(file, base, zone, point)
+    reading::point::read(file, base, zone, point)
 }
 
 // The record that a point is read from, a part of the file: empty exactly where refusal 1, 2, 3 or 4
@@ -41,7 +41,7 @@ pub fn record(file: &[u8], base: u32, zone: u32, point: Point) -> &[u8]
 pub fn engine_point(file: &[u8], base: u32, zone: u32, point: Point) -> EnginePoint
     ensures { λ r. ⌜ Tells (now (file .entry)) (now (file .exit)) base zone point r ⌝ }
 {
-    terrain::engine::engine_point(file, base, zone, point)
+    reading::engine::engine_point(file, base, zone, point)
 }
 
 // The point as the engine takes it, in a struct, or refusal 1 to 6.

@@ -1,36 +1,21 @@
--- Document 01, "Checked figures": P9 to P12. That each holds is shown in proofs/Figures.antt. Assumes nothing.
+-- Document 01, "Checked figures": P10 to P12. That each holds is shown in proofs/Figures.antt. Assumes nothing.
 use mathlib.Core.Bool.{Bool, cond}
 use mathlib.Core.List.{List, [], _∷_}
-use Prim.Native.Nat.{ℕ, _+_, _*_}
+use Prim.Native.Nat.{ℕ, _*_}
 use lib.Dec.{eqb}
 use Rattle.ground.specs.Outcome.{Outcome, given, _andThen_}
-use Rattle.ground.specs.Measure.{metres}
 use Rattle.ground.specs.Figure.{Figure, figure}
-use Rattle.ground.specs.declared.point.Point.{Point}
-use Rattle.link.specs.Path.{pathOf, sample}
-use Rattle.link.specs.Profile.{profileBy}
+use Rattle.path.specs.Figure.{fromCorner}
+use Rattle.path.specs.declared.Path.{Path}
+use Rattle.profile.specs.Profile.{profileBy}
+use Rattle.masts.specs.Plan.{planOf}
 use Rattle.link.specs.Clear.{G, clear}
-use Rattle.link.specs.Plan.{planAnswer, planOf}
-use Rattle.link.specs.declared.path.Path.{Path}
+use Rattle.link.specs.Plan.{planAnswer}
 use Rattle.link.specs.declared.plan.PlanAnswer.{PlanAnswer}
-
--- zone 17: the path from the south-west corner of rectangle 50, so many metres east and north
-abbrev path : ℕ → ℕ → Path
-path dE dN =
-    let at : ℕ → ℕ → Point = λ E N. record { zone = 17; easting = metres E; northing = metres N } in
-    pathOf (at 500000 4433000) (at (500000 + dE) (4433000 + dN))
-
--- dE 1000 gives N = 2; 1001 gives 3; 300 by 400 gives 1. From 500,000 to 501,001 the samples are 500,000, 500,333, 500,667, 501,001
-abbrev pub P9 : Figure
-P9 =
-    let easting : ℕ → ℕ = λ i. sample (path 1001 0) i .easting .0 in
-    figure
-    (given (path 1000 0 .n ∷ path 1001 0 .n ∷ path 300 400 .n ∷ []) ∷ given (easting 0 ∷ easting 1 ∷ easting 2 ∷ easting 3 ∷ []) ∷ [])
-    (given (2 ∷ 3 ∷ 1 ∷ []) ∷ given (500000 ∷ 500333 ∷ 500667 ∷ 501001 ∷ []) ∷ [])
 
 -- Q = 100,000,000, N = 20, i = 10: G = 1471
 abbrev pub P10 : Figure
-P10 = let w : Path = path 10000 0 in figure (given (w .q ∷ w .n ∷ G w 10 ∷ []) ∷ []) (given (100000000 ∷ 20 ∷ 1471 ∷ []) ∷ [])
+P10 = let w : Path = fromCorner 10000 0 in figure (given (w .q ∷ w .n ∷ G w 10 ∷ []) ∷ []) (given (100000000 ∷ 20 ∷ 1471 ∷ []) ∷ [])
 
 -- the answer of the plan with limits 100: refusal, place, first and second mast
 abbrev pub answerOf : (ℕ → ℕ → Bool) → Outcome (List ℕ)
@@ -38,7 +23,7 @@ answerOf clears =
     let r : PlanAnswer = planAnswer (planOf clears 100 100) in
     given (r .refusal ∷ r .place ∷ r .first ∷ r .second ∷ [])
 
--- .. of a path over bare ground (code 2) of so many metres at each sample; a metre is 250,000 of 1/250,000 m
+-- the answer of the plan of a path over bare ground (code 2), of `ground i` metres at sample i; a metre is 250,000 of 1/250,000 m
 abbrev planned : Path → (ℕ → ℕ) → Outcome (List ℕ)
 planned w ground =
     profileBy (λ i. given (record { height = 250000 * ground i; code = 2 })) (w .n) andThen λ p. answerOf (clear (record { path = w; profile = p }))
@@ -47,12 +32,12 @@ planned w ground =
 abbrev pub P11 : Figure
 P11 =
     let flat : ℕ → ℕ = λ i. 100 in
-    figure (planned (path 10000 0) flat ∷ planned (path 0 1000) flat ∷ []) (given (0 ∷ 0 ∷ 1 ∷ 3 ∷ []) ∷ given (0 ∷ 0 ∷ 0 ∷ 1 ∷ []) ∷ [])
+    figure (planned (fromCorner 10000 0) flat ∷ planned (fromCorner 0 1000) flat ∷ []) (given (0 ∷ 0 ∷ 1 ∷ 3 ∷ []) ∷ given (0 ∷ 0 ∷ 0 ∷ 1 ∷ []) ∷ [])
 
 -- N = 2, dE 1000, limits 100, ends at 0 m, middle 99 m: masts 99 and 100; middle 100 m: refusal 9
 abbrev pub P12 : Figure
 P12 =
     let middle : ℕ → ℕ → ℕ = λ height i. cond (eqb i 1) height 0 in
     figure
-    (planned (path 1000 0) (middle 99) ∷ planned (path 1000 0) (middle 100) ∷ [])
+    (planned (fromCorner 1000 0) (middle 99) ∷ planned (fromCorner 1000 0) (middle 100) ∷ [])
     (given (0 ∷ 0 ∷ 99 ∷ 100 ∷ []) ∷ given (9 ∷ 0 ∷ 0 ∷ 0 ∷ []) ∷ [])

@@ -1,26 +1,29 @@
 // The clear test of a path with its profile, in millimetres, and the verdict.
 ghost use mathlib.Core.Path.{_≡_};
-ghost use Prim.Native.Nat.{_+_, _≤_};
+ghost use Prim.Native.Nat.{_≤_};
 ghost use lib.ListN.{getD};
-ghost use Rattle.link.specs.Profile.{linkOf};
-ghost use Rattle.link.specs.Clear.{roundedUp, raised, T, G, need, clear, verdict, verdictAnswer};
-ghost use Rattle.link.specs.Inside.{Sound, SoundLink};
-use crate::path;
-use crate::path::Asked;
-use crate::path::Path;
-use crate::path::ROOM;
-use crate::profile;
-use crate::profile::Walked;
+ghost use Rattle.reading.specs.Corner.{mostHeight};
+ghost use Rattle.path.specs.Path.{tallest};
+ghost use Rattle.path.specs.Inside.{SoundPath};
+ghost use Rattle.profile.specs.Profile.{linkOf};
+ghost use Rattle.profile.specs.Inside.{SoundLink};
+ghost use Rattle.link.specs.Clear.{raised, T, G, need, clear, verdict, verdictAnswer};
 use ground::point::Point;
-use terrain::reading::Reading;
+use masts::sight::IN_A_METRE;
+use masts::sight::rounded_up;
+use path::Asked;
+use path::Path;
+use path::ROOM;
+use path::line::line;
+use profile::samples;
+use profile::samples::Sampled;
+use reading::point::Reading;
 
-// An exact height, which is in 1/250,000 m, has so many to a millimetre.
+// An exact height has 250 units of 1/250,000 m per millimetre.
 const IN_A_MILLIMETRE: u32 = 250;
 
-// Millimetres in a metre of mast.
-pub(crate) const IN_A_METRE: u32 = 1000;
-
-// Twice the effective radius of 8,500 km, in km: square metres of Q to a millimetre of G.
+// Twice the effective radius of 8,500 km, in km. A sample d1 and d2 metres from the two ends has
+// G = d1 d2 / 17,000 mm.
 const RADII: u64 = 17000;
 
 // The verdict: clear 1, blocked 0; or a refusal.
@@ -31,15 +34,7 @@ pub struct VerdictAnswer {
     pub clear: u32,
 }
 
-// The quotient rounded up.
-pub(crate) fn rounded_up(m: u32, d: u32) -> u32
-    requires { ⌜ (1 ≤ d) × (m + d ≤ 4294967295) ⌝ }
-    ensures { λ r. ⌜ r ≡ roundedUp m d ⌝ }
-{
-    (m + (d - 1)) / d
-}
-
-// What was read at a sample.
+// What was read at sample i: its exact height and its surface code.
 pub(crate) fn sample_of(heights: &[u32; ROOM], codes: &[u8; ROOM], i: u32) -> Reading
     requires { ⌜ (i ≤ 200) × (getD (now codes) i 0 ≤ 7) ⌝ }
     ensures { λ r. ⌜ r ≡ record { height = getD (now (heights .entry)) i 0; code = getD (now (codes .entry)) i 0 } ⌝ }
@@ -50,25 +45,25 @@ pub(crate) fn sample_of(heights: &[u32; ROOM], codes: &[u8; ROOM], i: u32) -> Re
     }
 }
 
-// A or B: the end's height rounded down, and its mast.
+// A or B, in millimetres: the end's height rounded down, and its mast.
 pub(crate) fn raised(end: Reading, mast: u32) -> u32
-    requires { ⌜ mast ≤ 100 ⌝ }
+    requires { ⌜ mast ≤ tallest ⌝ }
     ensures { λ r. ⌜ r ≡ raised end mast ⌝ }
 {
     end.height / IN_A_MILLIMETRE + IN_A_METRE * mast
 }
 
-// T: the sample's height rounded up.
+// T, in millimetres: the sample's height rounded up.
 fn top(sample: Reading) -> u32
-    requires { ⌜ sample .height ≤ 2047500000 ⌝ }
+    requires { ⌜ sample .height ≤ mostHeight ⌝ }
     ensures { λ r. ⌜ r ≡ T sample ⌝ }
 {
     rounded_up(sample.height, IN_A_MILLIMETRE)
 }
 
-// G: Q i (N-i) / (17,000 N²) rounded up.
+// G, in millimetres: Q i (N-i) / (17,000 N²) rounded up.
 fn curve(path: Path, i: u32) -> u32
-    requires { ⌜ Sound path × (i ≤ path .n) ⌝ }
+    requires { ⌜ SoundPath path × (i ≤ path .n) ⌝ }
     ensures { λ r. ⌜ r ≡ G path i ⌝ }
 {
     let over = RADII * (path.n * path.n) as u64;
@@ -85,13 +80,13 @@ pub(crate) fn need(path: Path, heights: &[u32; ROOM], codes: &[u8; ROOM], i: u32
 
 // Whether the path is clear with masts a and b.
 fn is_clear(path: Path, heights: &[u32; ROOM], codes: &[u8; ROOM], a: u32, b: u32) -> bool
-    requires { ⌜ SoundLink (linkOf path (now heights) (now codes)) × ((a ≤ 100) × (b ≤ 100)) ⌝ }
+    requires { ⌜ SoundLink (linkOf path (now heights) (now codes)) × ((a ≤ tallest) × (b ≤ tallest)) ⌝ }
     ensures { λ r. ⌜ r ≡ clear (linkOf path (now (heights .entry)) (now (codes .entry))) a b ⌝ }
 {
     let first = raised(sample_of(heights, codes, 0), a);
     let last = raised(sample_of(heights, codes, path.n), b);
     for i in 1..path.n {
-        if path::line(path.n, first, last, i) < need(path, heights, codes, i) {
+        if line(path.n, first, last, i) < need(path, heights, codes, i) {
             return false;
         }
     }
@@ -120,13 +115,13 @@ pub fn verdict(
         b,
         i: 0,
     };
-    match profile::link(file, base, zone, asked, &mut heights, &mut codes) {
-        Walked::Whole(path) => VerdictAnswer {
+    match samples::read_samples(file, base, zone, asked, &mut heights, &mut codes) {
+        Sampled::Whole(path) => VerdictAnswer {
             refusal: 0,
             place: 0,
             clear: is_clear(path, &heights, &codes, a, b) as u32,
         },
-        Walked::Refused(refusal, place) => VerdictAnswer {
+        Sampled::Refused(refusal, place) => VerdictAnswer {
             refusal,
             place,
             clear: 0,

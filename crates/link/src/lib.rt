@@ -1,8 +1,3 @@
-// The link between two points: its path, its profile, whether it is clear, its masts, and its rows
-// for the prediction engine.
-
+// The link between two points: whether two masts see each other, and the lowest two that do.
 pub mod clear;
-mod path;
 pub mod plan;
-pub mod profile;
-pub mod row;

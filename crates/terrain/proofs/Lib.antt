@@ -1,3 +1,3 @@
--- The laws of a terrain file, and the checked figures P6 to P8.
+-- The laws of the file, and the checked figure P6.
 pub mod Laws
 pub mod Figures

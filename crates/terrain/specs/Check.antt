@@ -6,7 +6,8 @@ use Prim.Native.Nat.{ℕ}
 use Rattle.ground.specs.Outcome.{Outcome, given, refused, unless, _andThen_, refusalNumber, refusalPlace, filledBy}
 use Rattle.ground.specs.Boundary.{rows, named}
 use Rattle.ground.specs.Ground.{groundOf}
-use Rattle.terrain.specs.Index.{highest, wholeRecords, indexPasses}
+use Rattle.index.specs.Bytes.{wholeRecords}
+use Rattle.index.specs.Index.{highest, indexPasses}
 use Rattle.terrain.specs.declared.check.Terrain.{Terrain}
 use Rattle.terrain.specs.declared.check.CheckAnswer.{CheckAnswer}
 use Rattle.terrain.specs.declared.check.Checked.{Checked}
@@ -20,12 +21,12 @@ checked file b z =
     (unless (not (indexPasses file (rows b))) 3
     (given (record { ground = groundOf b z; highest = highest file }))))
 
--- what each case of `Checked` says: the file, or that refusal
+-- what each case of `Checked` means
 abbrev pub checkedMeans : Checked → Outcome Terrain
 checkedMeans (Passed t) = given t
 checkedMeans (Refused number) = refused number 0
 
--- the answer as the caller gets it: a check that passes answers M
+-- the answer of `janlishuk_check` as the caller gets it: a check that passes answers M
 abbrev pub checkAnswer : Outcome Terrain → CheckAnswer
 checkAnswer o =
     record {
@@ -34,7 +35,7 @@ checkAnswer o =
       highest = filledBy 0 (o andThen λ t. given (t .highest));
     }
 
--- This is what the check gave for the file, with some base and zone: what the calls on a checked file ask for.
+-- The check gave this for the file, with some base and zone: what the calls on a checked file ask for.
 pub record Gave (file : List ℕ) (t : Terrain) : Type 0 where
   pub base : ℕ
   pub zone : ℕ

@@ -1,56 +1,13 @@
--- Document 01, "Checked figures": P6 to P8. That each holds is shown in proofs/Figures.antt. Assumes nothing.
-use mathlib.Core.Bool.{false}
-use mathlib.Core.List.{List, [], _∷_, _++_}
-use Prim.Native.Nat.{ℕ, _+_, _*_, _/_, _%_}
-use lib.ListN.{replicate}
-use lib.IntN.{pos, negsuc}
-use lib.Ieee.{Float, fin}
-use Rattle.ground.specs.Outcome.{Outcome, given, _andThen_}
-use Rattle.ground.specs.Measure.{metres}
-use Rattle.ground.specs.Ground.{groundOf}
-use Rattle.ground.specs.Place.{located}
+-- Document 01, "Checked figures": P6. That it holds is shown in proofs/Figures.antt. Assumes nothing.
+use mathlib.Core.List.{[], _∷_}
+use Prim.Native.Nat.{ℕ}
+use Rattle.ground.specs.Outcome.{given}
 use Rattle.ground.specs.Figure.{Figure, figure}
-use Rattle.terrain.specs.Bytes.{nth}
-use Rattle.terrain.specs.Corner.{codeOf, elevationOf}
-use Rattle.terrain.specs.Reading.{readTaken}
-use Rattle.terrain.specs.Engine.{metresOf}
+use Rattle.index.specs.Bytes.{nth}
+use Rattle.terrain.specs.Word.{codeOf, elevationOf}
 
 -- bytes 96, 100 are code 3, elevation 100
 abbrev pub P6 : Figure
 P6 =
     let word : ℕ = nth (96 ∷ 100 ∷ []) 1 in
     figure (given (codeOf word ∷ elevationOf word ∷ []) ∷ []) (given (3 ∷ 100 ∷ []) ∷ [])
-
--- the two bytes of a word of bare ground (code 2)
-abbrev word : ℕ → List ℕ
-word elevation = (8192 * 2 + elevation) / 256 ∷ (8192 * 2 + elevation) % 256 ∷ []
-
--- the start of a record with these elevations at its first four corners, SW, SE, NW, NE: words 1, 2, 17 and 18
-abbrev corners : ℕ → ℕ → ℕ → ℕ → List ℕ
-corners sw se nw ne = word sw ++ word se ++ replicate 28 0 ++ word nw ++ word ne
-
--- base 40, zone 17, fx metres east and fy metres north of the south-west corner of rectangle 50: the height in 1/250,000 m, and in metres
-abbrev readIn : List ℕ → ℕ → ℕ → Outcome (ℕ × Float)
-readIn bytes fx fy =
-    located (groundOf 40 17) (record { zone = 17; easting = metres (500000 + fx); northing = metres (4433000 + fy) })
-    andThen (λ s. readTaken (record { start = 0; bytes = bytes; place = s }))
-    andThen λ r. given (r .height, metresOf (r .height))
-
--- corners SW 100, SE 110, NW 120, NE 150 at fx = fy = 250: 30,000,000, which is 120.0 m, as a double 15 x 2^3
-abbrev pub P7 : Figure
-P7 =
-    record {
-      Value = Outcome (ℕ × Float);
-      computed = readIn (corners 100 110 120 150) 250 250;
-      said = given (30000000, fin false 15 (pos 3));
-    }
-
--- same, fx 125, fy 0: 25,625,000, which is 102.5 m, as a double 205 x 2^-1; the north corners may be 8191
-abbrev pub P8 : Figure
-P8 =
-    let at : Outcome (ℕ × Float) = given (25625000, fin false 205 (negsuc 0)) in
-    record {
-      Value = List (Outcome (ℕ × Float));
-      computed = readIn (corners 100 110 120 150) 125 0 ∷ readIn (corners 100 110 8191 8191) 125 0 ∷ [];
-      said = at ∷ at ∷ [];
-    }

@@ -6,35 +6,40 @@ use mathlib.Core.List.{List, []}
 use Prim.Native.Nat.{ℕ, _+_}
 use lib.Dec.{eqb}
 use denote.Ref.{RefT}
-use Rattle.ground.specs.Outcome.{Outcome, given, unless, _andThen_, filledBy}
+use Rattle.ground.specs.Outcome.{Outcome, given, refused, unless, _andThen_, filledBy}
 use Rattle.ground.specs.Place.{number, located}
 use Rattle.ground.specs.declared.point.Point.{Point}
 use Rattle.ground.specs.declared.place.Place.{Place}
-use Rattle.terrain.specs.Bytes.{recordStart, recordBytes}
-use Rattle.terrain.specs.Index.{position}
+use Rattle.index.specs.Bytes.{recordStart, recordBytes, Part}
+use Rattle.index.specs.Index.{position}
 use Rattle.terrain.specs.Check.{checked}
 use Rattle.terrain.specs.declared.check.Terrain.{Terrain}
+use Rattle.terrain.specs.declared.record.Taken.{Taken}
+use Rattle.terrain.specs.declared.record.Sought.{Sought}
+use Rattle.terrain.specs.declared.record.Sought.the-variants.{From, Refused}
 
 -- what the index says of rectangle n: the number of its record, or 0. Rectangle 0 has no position and is never covered
 unfoldable pub entry : List ℕ → ℕ → ℕ
 entry file n = cond (eqb n 0) 0 (position file n)
 
--- rectangle n is covered; refusal 5 is given where it is not
+-- rectangle n is covered
 abbrev pub covered : List ℕ → ℕ → Bool
 covered file n = not (eqb (entry file n) 0)
 
--- the record that a point is read from: where in the file it begins, its bytes, and where in it the point lies
-pub record Taken : Type 0 where
-  pub start : ℕ
-  pub bytes : List ℕ
-  pub place : Place
-
--- a point is read from its own rectangle's record
+-- The record that a point is read from, and where in that record's rectangle the point lies: its own rectangle's, or refusal 5 where that is not
+-- covered.
 unfoldable pub taken : List ℕ → Place → Outcome Taken
 taken file s =
-    let r : ℕ = entry file (number (s .rectangle)) in
-    unless (not (covered file (number (s .rectangle)))) 5
-    (given (record { start = recordStart r; bytes = recordBytes file r; place = s }))
+    let n : ℕ = number (s .rectangle) in
+    unless (not (covered file n)) 5 (given (record { entry = entry file n; place = s }))
+
+-- the number of the rectangle whose record is taken
+abbrev pub rectangleOf : Taken → ℕ
+rectangleOf t = number (t .place .rectangle)
+
+-- no record is taken for a point at this place: its rectangle is not covered
+abbrev pub Uncovered : List ℕ → Place → Type 0
+Uncovered file s = (t : Taken) → taken file s ≡ given t → ⊥
 
 -- a point of a checked file: 4 and 5 in that order, else the record that it is read from
 unfoldable pub recordIn : List ℕ → Terrain → Point → Outcome Taken
@@ -44,16 +49,19 @@ recordIn file t p = located (t .ground) p andThen taken file
 unfoldable pub recordFor : List ℕ → ℕ → ℕ → Point → Outcome Taken
 recordFor file b z p = checked file b z andThen λ t. recordIn file t p
 
--- The record as the caller gets it, a part of the lent bytes: the bytes of the record taken, or none beside a refusal ..
-abbrev pub takenBytes : Outcome Taken → List ℕ
-takenBytes o = filledBy [] (o andThen λ t. given (t .bytes))
+-- what each case of `Sought` means
+abbrev pub soughtMeans : Sought → Outcome Taken
+soughtMeans (From t) = given t
+soughtMeans (Refused number) = refused number 0
 
--- .. and they begin where the record does in the caller's own file, or, beside a refusal, where the file does.
-abbrev pub takenStart : Outcome Taken → ℕ
-takenStart o = filledBy 0 (o andThen λ t. given (t .start))
+-- the bytes of the record as the caller gets it: none beside a refusal
+abbrev pub partBytes : List ℕ → Outcome Taken → List ℕ
+partBytes file o = filledBy [] (o andThen λ t. given (recordBytes file (t .entry)))
 
--- So r is that part of the lent slice, where a slice has its bytes now, and a place that it begins at: a block of memory and an offset in it.
-pub record Part (file : RefT (List ℕ)) (r : RefT (List ℕ)) (o : Outcome Taken) : Type 0 where
-  pub bytes : r .now ≡ takenBytes o
-  pub block : r .ptr .0 ≡ file .ptr .0
-  pub start : r .ptr .1 ≡ takenStart o + file .ptr .1
+-- where in the caller's file the part begins: beside a refusal, where the file does
+abbrev pub partStart : Outcome Taken → ℕ
+partStart o = filledBy 0 (o andThen λ t. given (recordStart (t .entry)))
+
+-- the record as the caller gets it, a part of the lent file
+abbrev pub RecordPart : (file r : RefT (List ℕ)) → Outcome Taken → Type 0
+RecordPart file r o = Part file r (partStart o) (partBytes (file .now) o)

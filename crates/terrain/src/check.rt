@@ -2,13 +2,12 @@
 ghost use mathlib.Core.Path.{_≡_};
 ghost use mathlib.Core.Bool.{true};
 ghost use Prim.Native.Nat.{_≤_};
-ghost use Rattle.terrain.specs.Index.{wholeRecords};
+ghost use Rattle.index.specs.Bytes.{wholeRecords};
 ghost use Rattle.terrain.specs.Check.{checked, checkedMeans, checkAnswer};
 ghost use Rattle.terrain.specs.Inside.{checkedOn};
-use crate::index;
-use crate::number::nth;
 use ground::Ground;
 use ground::Opened;
+use index::bytes;
 
 // What is known of a file that passes: its ground, and its highest record number M.
 pub struct Terrain {
@@ -16,7 +15,7 @@ pub struct Terrain {
     pub highest: u32,
 }
 
-// What the check comes to: the file, or the number of the refusal.
+// What the check comes to: what is known of the file, or the number of the refusal.
 pub enum Checked {
     Passed(Terrain),
     Refused(u32),
@@ -30,12 +29,12 @@ pub struct CheckAnswer {
     pub highest: u32,
 }
 
-// A file of whole records on the ground that it was opened with, or refusal 3.
+// What is known of a file of whole records on the ground that it was opened with, or refusal 3.
 fn check_on(file: &[u8], ground: Ground) -> Checked
     requires { ⌜ (wholeRecords (now file) ≡ true) × ((1 ≤ ground .rows) × (ground .rows ≤ 30)) ⌝ }
     ensures { λ r. ⌜ checkedMeans r ≡ checkedOn (now (file .entry)) ground ⌝ }
 {
-    let highest = nth(file, index::LAST);
+    let highest = bytes::nth(file, bytes::LAST);
     if !index::passes(file, highest as usize, ground.rows) {
         return Checked::Refused(3);
     }
@@ -49,7 +48,7 @@ fn check_on(file: &[u8], ground: Ground) -> Checked
 pub fn check_file(file: &[u8], base: u32, zone: u32) -> Checked
     ensures { λ r. ⌜ checkedMeans r ≡ checked (now (file .entry)) base zone ⌝ }
 {
-    if !index::is_whole(file) {
+    if !bytes::is_whole(file) {
         return Checked::Refused(1);
     }
     match Ground::open(base, zone) {

@@ -1,76 +1,78 @@
-// The records of a file: the rectangles' words, as parts of the lent bytes.
+// The records of a file: which one a point is read from, and that record as a part of the lent bytes.
 ghost use mathlib.Core.Path.{_≡_};
 ghost use Prim.Native.Nat.{_≤_, _<_};
 ghost use lib.ListN.{length};
-ghost use Rattle.ground.specs.Outcome.{refused};
+ghost use Rattle.ground.specs.Place.{number};
+ghost use Rattle.index.specs.Bytes.{indexBytes};
 ghost use Rattle.terrain.specs.Check.{Gave};
-ghost use Rattle.terrain.specs.Record.{entry, taken, recordIn, recordFor, Part};
-ghost use Rattle.terrain.specs.Inside.{Reaches};
+ghost use Rattle.terrain.specs.Inside.{IsEntry};
+ghost use Rattle.terrain.specs.Record.{taken, recordIn, recordFor, soughtMeans, RecordPart};
 use crate::check::Checked;
 use crate::check::Terrain;
-use crate::number::nth;
 use ground::Located;
 use ground::place::Place;
 use ground::point::Point;
-use ground::rectangle::Rectangle;
+use index::bytes;
 
-// Bytes of a record: two for each word of a rectangle.
-pub(crate) const LENGTH: usize = 2 * Rectangle::WIDE * Rectangle::HIGH;
+// The record that a point is read from: its number, which is the entry of its rectangle in the index,
+// and where in that rectangle the point lies.
+pub struct Taken {
+    pub entry: usize,
+    pub place: Place,
+}
 
-// No bytes, as a part of the file.
-fn no_bytes(file: &[u8]) -> &[u8]
-    ensures { λ r. ⌜ Part (file .entry) r (refused 0 0) ⌝ }
-{
-    &file[0..0]
+// What looking for the record of a point comes to: the record, or the number of the refusal.
+pub enum Sought {
+    From(Taken),
+    Refused(u32),
 }
 
 // What the index says of rectangle n: the number of its record, or 0. Rectangle 0 has no position.
 fn entry_of(file: &[u8], n: usize) -> usize
-    requires { ⌜ (n < 3072) × (6144 ≤ length (now file)) ⌝ }
-    ensures { λ r. ⌜ r ≡ entry (now (file .entry)) n ⌝ }
+    requires { ⌜ (n < 3072) × (indexBytes ≤ length (now file)) ⌝ }
+    ensures { λ r. ⌜ IsEntry (now (file .entry)) n r ⌝ }
 {
     if n == 0 {
         return 0;
     }
-    nth(file, n) as usize
+    bytes::nth(file, n) as usize
 }
 
-// The record that a point at this place is read from, a part of the file; empty where the rectangle is
-// not covered.
-pub(crate) fn take(file: &[u8], place: Place) -> &[u8]
-    requires { ⌜ Reaches (now file) place ⌝ }
-    ensures { λ r. ⌜ Part (file .entry) r (taken (now (file .entry)) place) ⌝ }
+// The record that a point at this place is read from, or refusal 5.
+fn take(file: &[u8], place: Place) -> Sought
+    requires { ⌜ (number (place .rectangle) < 3072) × (indexBytes ≤ length (now file)) ⌝ }
+    ensures { λ r. ⌜ soughtMeans r ≡ taken (now (file .entry)) place ⌝ }
 {
     let rectangle = place.rectangle;
-    let r = entry_of(file, rectangle.number());
-    if r == 0 {
-        return no_bytes(file);
+    let entry = entry_of(file, rectangle.number());
+    if entry == 0 {
+        return Sought::Refused(5);
     }
-    let start = LENGTH * (r - 1);
-    let end = start + LENGTH;
-    &file[start..end]
+    Sought::From(Taken { entry, place })
 }
 
-// The record that a point of a checked file is read from, a part of the file: empty exactly where
-// refusal 4 holds or the rectangle is not covered.
-pub fn record_in(file: &[u8], terrain: Terrain, point: Point) -> &[u8]
+// The record that a point of a checked file is read from, or refusal 4 or 5.
+pub fn seek(file: &[u8], terrain: Terrain, point: Point) -> Sought
     requires { ⌜ Gave (now file) terrain ⌝ }
-    ensures { λ r. ⌜ Part (file .entry) r (recordIn (now (file .entry)) terrain point) ⌝ }
+    ensures { λ r. ⌜ soughtMeans r ≡ recordIn (now (file .entry)) terrain point ⌝ }
 {
     let ground = terrain.ground;
-    let Located::At(place) = ground.locate(point) else {
-        return no_bytes(file);
-    };
-    take(file, place)
+    match ground.locate(point) {
+        Located::At(place) => take(file, place),
+        Located::Refused(number) => Sought::Refused(number),
+    }
 }
 
-// The record that a point is read from, a part of the file: empty exactly where refusal 1, 2, 3 or 4
-// holds or the rectangle is not covered.
+// The record that a point is read from, as a part of the file: empty exactly where refusal 1, 2, 3 or
+// 4 holds or the rectangle is not covered.
 pub fn record_at(file: &[u8], base: u32, zone: u32, point: Point) -> &[u8]
-    ensures { λ r. ⌜ Part (file .entry) r (recordFor (now (file .entry)) base zone point) ⌝ }
+    ensures { λ r. ⌜ RecordPart (file .entry) r (recordFor (now (file .entry)) base zone point) ⌝ }
 {
     let Checked::Passed(terrain) = crate::check::check_file(file, base, zone) else {
-        return no_bytes(file);
+        return &file[0..0];
     };
-    record_in(file, terrain, point)
+    let Sought::From(taken) = seek(file, terrain, point) else {
+        return &file[0..0];
+    };
+    bytes::cut(file, taken.entry)
 }

@@ -1,5 +1,5 @@
 -- What it means that a base and a zone are named, that a ground was opened, and that a ground holds a point, as facts about the numbers; and
--- that a ground holds just the metres that document 01 says. From the laws of the boundaries and of outcomes. Assumes nothing.
+-- that a ground holds exactly the metres that document 01 says. From the laws of the boundaries and of outcomes. Assumes nothing.
 use mathlib.Core.Path.{_≡_}
 use mathlib.Core.Logic.{_↔_}
 use mathlib.Core.Bool.{true, not, _&&_, and-eq-true-iff}
@@ -18,6 +18,7 @@ use Rattle.ground.specs.declared.Opened.the-variants.{On, Refused}
 use Rattle.ground.proofs.Laws.Outcome.{past}
 use Rattle.ground.proofs.Laws.Boundary.{base-at, rows-28-29}
 
+-- a base and a zone that are named
 pub record Named (b z : ℕ) : Type 0 where
   pub is : named b z ≡ true
   pub base : isBase b ≡ true
@@ -25,6 +26,7 @@ pub record Named (b z : ℕ) : Type 0 where
   pub first : 1 ≤ z
   pub last : z ≤ 60
 
+-- what the test of base and zone means
 pub named-is : (b z : ℕ) → named b z ≡ true → Named b z
 unfolding named
 named-is b z h =
@@ -44,6 +46,7 @@ pub record IsOpened (b z : ℕ) (g : Ground) : Type 0 where
   pub is : g ≡ groundOf b z
   pub rows : (28 ≤ g .rows) × (g .rows ≤ 29)
 
+-- a ground that was opened is what `IsOpened` says
 pub opened-is : (b z : ℕ) (g : Ground) → opened b z ≡ given g → IsOpened b z g
 opened-is b z g e =
     let t = past (not (named b z)) 2 (given (groundOf b z)) g e in
@@ -58,6 +61,7 @@ opened-once (On g) (Refused k) e = cc
 opened-once (Refused k) (On g) e = cc
 opened-once (Refused k) (Refused l) e = cc
 
+-- a point of the ground's zone, between its edges
 pub record Held (g : Ground) (p : Point) : Type 0 where
   pub zone : p .zone ≡ g .zone
   pub west : 125000 ≤ p .easting .0
@@ -65,6 +69,7 @@ pub record Held (g : Ground) (p : Point) : Type 0 where
   pub south : g .south .0 ≤ inUnits (p .northing) .0
   pub north : inUnits (p .northing) .0 < g .north .0
 
+-- what the test of a point means
 pub held : (g : Ground) (p : Point) → holds g p ≡ true → Held g p
 unfolding holds onGround
 held g p h =
@@ -81,6 +86,7 @@ held g p h =
       north = ltb-true _ _ (n .1);
     }
 
+-- a point between the edges passes the test
 pub holding : (g : Ground) (p : Point) → Held g p → holds g p ≡ true
 unfolding holds onGround
 holding g p t =
@@ -92,7 +98,7 @@ holding g p t =
       lt-ltb _ _ (t .north),
     )
 
--- Document 01's own words: of the zone, eastings from 125,000 to 874,999 m, northings from 500 yB(b) to 500 yB(b+4) - 1 m
+-- document 01's own words: of the zone, eastings from 125,000 to 874,999 m, northings from 500 yB(b) to 500 yB(b+4) - 1 m
 pub held-in-metres : (g : Ground) (p : Point) → (holds g p ≡ true)
     ↔ ((p .zone ≡ g .zone) × (125000 ≤ p .easting .0) × (p .easting .0 ≤ 874999) × (500 * g .south .0 ≤ p .northing .0) × (p .northing .0 < 500 * g .north .0))
 held-in-metres g p = (

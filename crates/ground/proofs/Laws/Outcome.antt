@@ -1,6 +1,5 @@
--- What is so of the steps of a call that came to an answer: each test before it was passed, and each step before it gave something.
--- Assumes nothing.
-use mathlib.Core.Path.{_≡_, refl}
+-- The steps of a call that came to an answer: each test before it was passed, and each step before it gave something. Assumes nothing.
+use mathlib.Core.Path.{_≡_, refl, sym, _∙_, ap}
 use mathlib.Core.Bool.{Bool, true, false}
 use Prim.Native.Nat.{ℕ}
 use native.Mathlib.Omega.{arith}
@@ -15,17 +14,18 @@ pub refused-is : {A : Type 0} (o : Outcome A) → (refusalNumber o ≡ 0 → ⊥
 refused-is (given a) n = absurd (n refl)
 refused-is (refused number place) n = refl
 
--- past a test
+-- past a test: it failed, and what follows is given
 pub past : {A : Type 0} (t : Bool) (number : ℕ) (o : Outcome A) (a : A) → unless t number o ≡ given a → (t ≡ false) × (o ≡ given a)
 past true number o a e = absurd (not-both e)
 past false number o a e = (refl, e)
 
--- past a step
+-- past a step: it gave a value, from which the rest gave b
 pub record Step {A B : Type 0} (o : Outcome A) (f : A → Outcome B) (b : B) : Type 0 where
   pub value : A
   pub gave : o ≡ given value
   pub then : f value ≡ given b
 
+-- what was given after a step
 pub step : {A B : Type 0} (o : Outcome A) (f : A → Outcome B) (b : B) → (o andThen f) ≡ given b → Step o f b
 step (given a) f b e = record { value = a; gave = refl; then = e }
 step (refused number place) f b e = absurd (not-both e)
@@ -34,3 +34,7 @@ step (refused number place) f b e = absurd (not-both e)
 pub assoc : {A B C : Type 0} (o : Outcome A) (f : A → Outcome B) (g : B → Outcome C) → (o andThen f andThen g) ≡ (o andThen λ a. f a andThen g)
 assoc (given a) f g = refl
 assoc (refused number place) f g = refl
+
+-- a match found this case of an answer, so what the answer means is what the case means
+pub told : {R O : Type 0} (means : R → O) {r v : R} {o : O} → means r ≡ o → r ≡ v → o ≡ means v
+told means e i = sym e ∙ ap means i

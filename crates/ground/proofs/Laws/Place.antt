@@ -1,6 +1,6 @@
--- What is so of the place of a point that its ground holds: it gives the point back, its rectangle is one of the file's, and the words of
--- its corners are words of a record; and the weights balance at the point and add up to 250,000. From the laws over the sizes, of the
--- boundaries and of the ground. Assumes nothing.
+-- The place of a point that its ground holds: it gives the point back, its rectangle is one of the file's, and the words of its corners are
+-- words of a record; and the weights balance at the point and add up to 250,000. From the laws over the sizes, of the boundaries and of the
+-- ground. Assumes nothing.
 use mathlib.Core.Path.{_≡_, refl}
 use mathlib.Core.Bool.{true}
 use Prim.Native.Nat.{ℕ, _+_, _-_, _*_, _/_, _≤_, _<_}
@@ -12,7 +12,7 @@ use mir.Val.{Fits}
 use Rattle.ground.specs.Measure.{inUnits}
 use Rattle.ground.specs.Boundary.{yB, rows}
 use Rattle.ground.specs.Ground.{groundOf, holds}
-use Rattle.ground.specs.Place.{number, weightsOf, placeAt, placeOf, word, wordsOf, locatedMeans}
+use Rattle.ground.specs.Place.{number, weightsOf, placeAt, placeOf, word, wordsOf, locatedMeans, Each}
 use Rattle.ground.specs.declared.measure.Metres.{Metres}
 use Rattle.ground.specs.declared.point.Point.{Point}
 use Rattle.ground.specs.declared.Ground.{Ground}
@@ -24,7 +24,7 @@ use Rattle.ground.proofs.Laws.Size.{axis, square}
 use Rattle.ground.proofs.Laws.Boundary.{rows-high}
 use Rattle.ground.proofs.Laws.Ground.{held}
 
--- the place s of the point p on the ground g: what gives its easting and northing back, and within which bounds
+-- the place s gives the easting and the northing of p back, and its parts are within their bounds
 pub record Lies (g : Ground) (p : Point) (s : Place) : Type 0 where
   pub easting : 125000 + 500 * (15 * s .rectangle .ix + s .wx .0) + s .fx .0 ≡ p .easting .0
   pub northing : 500 * (g .south .0 + 31 * s .rectangle .iy + s .wy .0) + s .fy .0 ≡ p .northing .0
@@ -35,6 +35,7 @@ pub record Lies (g : Ground) (p : Point) (s : Place) : Type 0 where
   pub fy : s .fy .0 ≤ 499
   pub weights : s .weights ≡ weightsOf (s .fx) (s .fy)
 
+-- the place of a point that the ground holds gives it back
 pub lies : (g : Ground) (p : Point) → holds g p ≡ true → Lies g p (placeOf g p)
 unfolding placeOf placeAt
 lies g p h =
@@ -72,11 +73,16 @@ pub record Weighs (fx fy : Metres) (w : Weights) : Type 0 where
   pub north : w .nw + w .ne ≡ 500 * fy .0
   pub all : w .sw + w .se + (w .nw + w .ne) ≡ 250000
 
+-- the weights of the definition are what `Weighs` says
 pub weighs : (fx fy : Metres) → fx .0 ≤ 500 → fy .0 ≤ 500 → Weighs fx fy (weightsOf fx fy)
 unfolding weightsOf
 weighs fx fy hx hy =
     let q = square 500 (fx .0) (fy .0) hx hy in
     record { east = q .east; north = q .north; all = q .all }
+
+-- what follows from P at a corner follows at each of the four
+pub each : {A : Type 0} {P Q : A → Type 0} {a b c d : A} → ((x : A) → P x → Q x) → Each P a b c d → Each Q a b c d
+each f e = record { sw = f _ (e .sw); se = f _ (e .se); nw = f _ (e .nw); ne = f _ (e .ne) }
 
 -- a weight fits a u32
 pub weight-fits : (a b : ℕ) → a ≤ 500 → b ≤ 500 → Fits w32 (a * b)
@@ -89,14 +95,15 @@ located-once (At a) (Refused k) e = cc
 located-once (Refused k) (At a) e = cc
 located-once (Refused k) (Refused l) e = cc
 
--- Each weight is a product of a part east and a part north: with `weighs`, this leaves one set of weights.
+-- each weight is a product of a part east and a part north; with `weighs`, this leaves one set of weights
 pub cross : (fx fy : Metres) → weightsOf fx fy .sw * weightsOf fx fy .ne ≡ weightsOf fx fy .se * weightsOf fx fy .nw
 unfolding weightsOf
 cross fx fy = omega arith
 
--- One unit east is the next word, and one unit north is 16 words on, so that neighbouring squares share their corners.
+-- one unit east is the next word: neighbouring squares share their corners
 pub word-east : (s t : Place) → t .wy .0 ≡ s .wy .0 → t .wx .0 ≡ s .wx .0 + 1 → (word t ≡ wordsOf s .se) × (wordsOf t .nw ≡ wordsOf s .ne)
 word-east s t y x = (omega arith, omega arith)
 
+-- one unit north is 16 words on: neighbouring squares share their corners
 pub word-north : (s t : Place) → t .wy .0 ≡ s .wy .0 + 1 → t .wx .0 ≡ s .wx .0 → (word t ≡ wordsOf s .nw) × (wordsOf t .se ≡ wordsOf s .ne)
 word-north s t y x = (omega arith, omega arith)

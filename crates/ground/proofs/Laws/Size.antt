@@ -4,12 +4,13 @@ use mathlib.Core.Path.{_≡_, sym, _∙_, ap, ap₂}
 use Prim.Native.Nat.{ℕ, _+_, _-_, _*_, _/_, _%_, _≤_, _<_}
 use native.Mathlib.Nat.{div-add-mod, mod-lt, mod-def, mul-div-le, add-sub-of-le, sub-add-cancel, add-assoc, add-mul, mul-add, mul-comm}
 
--- v metres along the axis, past the origin of o units: as many whole rectangles, units in the last one and metres past the last unit
+-- v metres along the axis, past an origin at o units: whole rectangles, units in the last one, and metres past the last unit give v back
 pub record Axis (s t o v : ℕ) : Type 0 where
   pub back : s * (o + t * ((v / s - o) / t) + (v / s - o - t * ((v / s - o) / t))) + v % s ≡ v
   pub units : v / s - o - t * ((v / s - o) / t) < t
   pub metres : v % s < s
 
+-- every v on the axis divides up as `Axis` says
 pub axis : (s t o v : ℕ) → 0 < s → 0 < t → o ≤ v / s → Axis s t o v
 axis s t o v hs ht h =
     let u = v / s - o in
@@ -27,6 +28,7 @@ pub record Square (s x y : ℕ) : Type 0 where
   pub north : (s - x) * y + x * y ≡ s * y
   pub all : (s - x) * (s - y) + x * (s - y) + ((s - x) * y + x * y) ≡ s * s
 
+-- the four products balance as `Square` says
 pub square : (s x y : ℕ) → x ≤ s → y ≤ s → Square s x y
 square s x y hx hy =
     let column : (n : ℕ) → (s - x) * n + x * n ≡ s * n = λ n. sym (add-mul (s - x) x n) ∙ ap (λ (m : ℕ). m * n) (sub-add-cancel hx) in

@@ -4,13 +4,15 @@ use native.Mathlib.Nat.{mul-le-mul, le-of-suc-le-suc, div-lt-iff-lt-mul}
 use native.Mathlib.Omega.{arith}
 use mir.Syntax.{w32}
 use mir.Val.{Fits}
-use Rattle.link.specs.Profile.{Link, sampleOf}
+use Rattle.profile.specs.Profile.{Link, sampleOf}
 use Rattle.link.specs.Clear.{raised, T, G, need}
-use Rattle.link.specs.Inside.{Sound, SoundLink}
-use Rattle.link.specs.declared.path.Path.{Path}
-use Rattle.link.proofs.Laws.Rounding.{rounded-up}
+use Rattle.path.specs.Inside.{SoundPath}
+use Rattle.profile.specs.Inside.{SoundLink}
+use Rattle.masts.specs.Inside.{mostRaised, mostNeed}
+use Rattle.path.specs.declared.Path.{Path}
+use Rattle.masts.proofs.Laws.Rounding.{rounded-up}
 
--- N², and Q i (N-i) with its parts
+-- N², Q i (N-i) with its parts, and their quotient are at most these
 pub record Curve (w : Path) (i : ℕ) : Type 0 where
   pub some : 1 ≤ w .n * w .n
   pub most : w .n * w .n ≤ 40000
@@ -18,7 +20,8 @@ pub record Curve (w : Path) (i : ℕ) : Type 0 where
   pub all : w .q * i * (w .n - i) ≤ 400000000000000
   pub quotient : (y : ℕ) → y < 17000 * (w .n * w .n) → (w .q * i * (w .n - i) + y) / (17000 * (w .n * w .n)) ≤ 588236
 
-pub curve-most : (w : Path) (i : ℕ) → Sound w → i ≤ w .n → Curve w i
+-- the parts of G keep `Curve`'s bounds on a path that was found
+pub curve-most : (w : Path) (i : ℕ) → SoundPath w → i ≤ w .n → Curve w i
 curve-most w i s h =
     let n = w .n in
     let some : 1 ≤ n * n = mul-le-mul (s .some) (s .some) in
@@ -33,12 +36,12 @@ curve-most w i s h =
       quotient = λ y h. le-of-suc-le-suc (div-lt-iff-lt-mul {x = w .q * i * (n - i) + y} {y = 588237} (omega arith) .1 (omega arith));
     }
 
--- so the quotient fits 32 bits, rounded up or not
-pub curve-fits : (w : Path) (i y : ℕ) → Sound w → i ≤ w .n → y < 17000 * (w .n * w .n)
+-- the quotient fits 32 bits, rounded up or not
+pub curve-fits : (w : Path) (i y : ℕ) → SoundPath w → i ≤ w .n → y < 17000 * (w .n * w .n)
     → Fits w32 ((w .q * i * (w .n - i) + y) / (17000 * (w .n * w .n)))
 curve-fits w i y s h l = record { fits = omega (arith, curve-most w i s h .quotient y l) }
 
--- T + G, and N times it
+-- T + G
 pub height-most : (l : Link) (i : ℕ) → SoundLink l → i ≤ l .path .n → T (sampleOf (l .profile) i) + G (l .path) i ≤ 8778236
 unfolding T G
 height-most l i s h =
@@ -46,10 +49,11 @@ height-most l i s h =
     let c = curve-most (l .path) i (s .path) h in
     omega (arith, top, c .quotient (17000 * (l .path .n * l .path .n) - 1) (omega (arith, c .some)))
 
-pub need-most : (l : Link) (i : ℕ) → SoundLink l → i ≤ l .path .n → need l i ≤ 1755647200
+-- what a sample needs
+pub need-most : (l : Link) (i : ℕ) → SoundLink l → i ≤ l .path .n → need l i ≤ mostNeed
 unfolding need
-need-most l i s h = mul-le-mul {n₂ = 200} {m₂ = 8778236} (s .path .most) (height-most l i s h)
+need-most l i s h = omega (arith, mul-le-mul {n₂ = 200} {m₂ = 8778236} (s .path .most) (height-most l i s h))
 
 -- A and B
-pub raised-most : (l : Link) (i mast : ℕ) → SoundLink l → mast ≤ 100 → raised (sampleOf (l .profile) i) mast ≤ 8290000
+pub raised-most : (l : Link) (i mast : ℕ) → SoundLink l → mast ≤ 100 → raised (sampleOf (l .profile) i) mast ≤ mostRaised
 raised-most l i mast s h = omega (arith, s .heights i)

@@ -1,29 +1,27 @@
--- Demand 2, last sentence, of the clear verdict, and demand 3: what verdict, plan and row say of a path whose profile is given, in document 01's
--- letters and in the caller's own fields. From the laws of the link, of the clear test and of the plan. Assumes nothing.
+-- Demand 2, last sentence, of the clear verdict, and demand 3: what verdict and plan say of a path whose profile is given, in document 01's letters and in
+-- the caller's own fields. From the laws of the profile's link, of the clear test and of the plan. Assumes nothing.
 use mathlib.Core.Path.{_≡_, refl, _∙_, subst}
 use mathlib.Core.Logic.{_↔_, _⊎_, inl, inr}
-use mathlib.Core.Bool.{true, false}
+use mathlib.Core.Bool.{true}
 use mathlib.Core.List.{List}
 use Prim.Native.Nat.{ℕ, _+_, _-_, _*_, _/_, _≤_, _<_}
 use native.Mathlib.Omega.{arith}
 use lib.ListN.{getD}
-use lib.IntN.{negsuc}
-use lib.Ieee.{fin, div, ofInt}
 use Rattle.ground.specs.Outcome.{Outcome, given, refused}
 use Rattle.ground.specs.declared.point.Point.{Point}
-use Rattle.terrain.specs.Engine.{metresOf}
-use Rattle.link.specs.Path.{Q, N, pathOf}
-use Rattle.link.specs.Profile.{Profile, Link, linked, profile}
-use Rattle.link.specs.Clear.{roundedUp, T, G, need, clear, ofMasts, verdict}
-use Rattle.link.specs.Plan.{Best, NoPair, Demand3, planAnswer, Plan, Allowed}
-use Rattle.link.specs.Row.{share, ofSample, row}
-use Rattle.link.specs.declared.plan.Masts.{Masts}
+use Rattle.path.specs.Path.{Q, N, pathOf, askMasts}
+use Rattle.profile.specs.Profile.{Profile, Link, linked, profile}
+use Rattle.masts.specs.Clear.{roundedUp}
+use Rattle.masts.specs.Plan.{Best, NoPair, Demand3}
+use Rattle.link.specs.Clear.{T, G, need, clear, verdict}
+use Rattle.link.specs.Plan.{planAnswer, Plan, Allowed}
+use Rattle.masts.specs.declared.Masts.{Masts}
 use Rattle.link.specs.declared.plan.PlanAnswer.{PlanAnswer}
-use Rattle.link.proofs.Laws.Clear.{clear-is, taller}
-use Rattle.link.proofs.Laws.Link.{WithinAsked, link-given}
+use Rattle.masts.proofs.Laws.Clear.{clear-is, taller}
+use Rattle.profile.proofs.Laws.Link.{WithinAsked, link-given}
 
 module _ (l : Link) where
-  -- The path is clear with masts a and b exactly if for each i from 1 to N-1, (N-i) A + i B >= N (T + G): document 01's test, written out.
+  -- the path is clear with masts a and b exactly if for each i from 1 to N-1, (N-i) A + i B >= N (T + G): document 01's test, written out
   pub clear-exactly : (a b : ℕ) → (clear l a b ≡ true)
       ↔ ((i : ℕ) → 1 ≤ i → i < l .path .n → (
       let n : ℕ = l .path .n in
@@ -34,54 +32,44 @@ module _ (l : Link) where
   unfolding clear need T G
   clear-exactly a b = clear-is (need l) (l .path .n) _ _
 
-  -- With N = 1 every pair is clear.
+  -- with N = 1 every pair is clear
   pub one-step-clear : (a b : ℕ) → l .path .n ≡ 1 → clear l a b ≡ true
   one-step-clear a b e = clear-exactly a b .1 λ i s h. absurd (omega arith)
 
-  -- A taller mast at either end never blocks a clear path.
+  -- a taller mast at either end never blocks a clear path
   pub taller-clear : {a b a' b' : ℕ} → a ≤ a' → b ≤ b' → clear l a b ≡ true → clear l a' b' ≡ true
   unfolding clear
   taller-clear first second = taller (need l) (l .path .n) _ _ _ _ (omega arith) (omega arith)
 
--- Of a path whose profile is given, ..
+-- Of a path whose profile is given:
 module _ (file : List ℕ) (base zone : ℕ) (p q : Point) (pr : Profile) (e : profile file base zone p q ≡ given pr) where
   abbrev pub link : Link
   link = record { path = pathOf p q; profile = pr }
 
-  masts-within : {a b : ℕ} → a ≤ 100 → b ≤ 100 → WithinAsked (N (Q p q)) (ofMasts p q a b)
+  -- masts of 0 to 100 m are within what may be asked
+  masts-within : {a b : ℕ} → a ≤ 100 → b ≤ 100 → WithinAsked (N (Q p q)) (askMasts p q a b)
   masts-within ha hb = record { a = ha; b = hb; i = omega arith }
 
-  -- .. the verdict on two masts of 0 to 100 m is given, and is the clear test; ..
+  -- the verdict on two masts of 0 to 100 m is given, and is the clear test
   pub verdict-given : {a b : ℕ} → a ≤ 100 → b ≤ 100 → verdict file base zone p q a b ≡ given (clear link a b)
   unfolding verdict
-  verdict-given {a} {b} ha hb = simp (link-given file base zone (ofMasts p q a b) pr e (masts-within ha hb))
+  verdict-given {a} {b} ha hb = simp (link-given file base zone (askMasts p q a b) pr e (masts-within ha hb))
 
-  -- .. whatever the plan answers for two limits of 0 to 100 m is what demand 3 allows of that test: two masts beside refusal 0, or
-  -- refusal 9 alone; ..
+  -- the answer r has the best pair beside refusal 0
   pub record Meets (la lb : ℕ) (r : PlanAnswer) : Type 0 where
     pub refusal : (r .refusal ≡ 0) × (r .place ≡ 0)
     pub best : Best (clear link) la lb (record { first = r .first; second = r .second })
 
-  pub demand-3 : {la lb : ℕ} → la ≤ 100 → lb ≤ 100 → (r : PlanAnswer) → Plan (linked file base zone (ofMasts p q la lb)) la lb r
+  -- whatever the plan answers for two limits of 0 to 100 m is what demand 3 allows of that test: the best pair, or refusal 9 alone
+  pub demand-3 : {la lb : ℕ} → la ≤ 100 → lb ≤ 100 → (r : PlanAnswer) → Plan (linked file base zone (askMasts p q la lb)) la lb r
       → Meets la lb r ⊎ ((r ≡ record { refusal = 9; place = 0; first = 0; second = 0 }) × NoPair (clear link) la lb)
   demand-3 {la} {lb} ha hb r s = go (allowed .outcome) (allowed .meets) (allowed .answers)
     where
       allowed : Allowed link la lb r
-      allowed = subst (λ (o : Outcome Link). Plan o la lb r) (link-given file base zone (ofMasts p q la lb) pr e (masts-within ha hb)) s
+      allowed = subst (λ (o : Outcome Link). Plan o la lb r) (link-given file base zone (askMasts p q la lb) pr e (masts-within ha hb)) s
 
       go : (o : Outcome Masts) → Demand3 (clear link) la lb o → r ≡ planAnswer o
           → Meets la lb r ⊎ ((r ≡ record { refusal = 9; place = 0; first = 0; second = 0 }) × NoPair (clear link) la lb)
       go (given m) d i =
           inl (rw i (record { refusal = (refl, refl); best = d }))
       go (refused number place) d i = inr (i ∙ rw (d .0 .0, d .0 .1), d .1)
-
-  -- .. and the row of each sample is given: its height in metres, and i divided by N.
-  pub row-given : (i : ℕ) → i ≤ N (Q p q)
-      → row file base zone p q i ≡ given (record { height = metresOf (getD (pr .heights) i 0); share = share i (N (Q p q)) })
-  unfolding row
-  row-given i h = simp (link-given file base zone (ofSample p q i) pr e (record { a = omega arith; b = omega arith; i = h }))
-
--- half-way is 0.5, as a double 1 x 2^-1
-pub half-way : share 1 2 ≡ fin false 1 (negsuc 0)
-unfolding div ofInt
-half-way = refl

@@ -1,24 +1,15 @@
--- Quotients rounded up: what they are at most. So rounding only ever makes a path look worse: where the test in millimetres holds, the line between
--- the ends clears the ground and the curve without any rounding. From the law of the clear test, sample by sample. Assumes nothing.
-use mathlib.Core.Path.{_≡_, _∙_, ap}
+-- Rounding only ever makes a path look worse: where the test in millimetres holds, the line between the ends clears the ground and the curve without any
+-- rounding. From the laws of quotients rounded up and of the clear test, sample by sample. Assumes nothing.
+use mathlib.Core.Path.{_≡_}
 use mathlib.Core.Bool.{true}
-use mathlib.Core.Logic.{_↔_}
 use Prim.Native.Nat.{ℕ, _+_, _-_, _*_, _≤_, _<_}
-use native.Mathlib.Nat.{div-lt-iff-lt-mul, mul-comm, mul-add, mul-one, mul-le-mul, mul-le-mul-left, le-refl}
+use native.Mathlib.Nat.{mul-le-mul, mul-le-mul-left, le-refl}
 use native.Mathlib.Omega.{arith}
-use Rattle.link.specs.Path.{line}
-use Rattle.link.specs.Profile.{Link, sampleOf}
-use Rattle.link.specs.Clear.{roundedUp, raised, T, G, need, clear, ExactlyClearAt}
-use Rattle.link.proofs.Laws.Clear.{clear-is}
-
--- the quotient of m by d rounded up is at most k exactly if m is at most d k
-pub rounded-up : (m d k : ℕ) → 1 ≤ d → (roundedUp m d ≤ k) ↔ (m ≤ d * k)
-rounded-up m d k h =
-    let product : (k + 1) * d ≡ d * k + d = mul-comm (k + 1) d ∙ mul-add d k 1 ∙ ap (λ (e : ℕ). d * k + e) (mul-one d) in
-    let q = div-lt-iff-lt-mul {x = m + (d - 1)} {y = k + 1} h in (
-      (λ l. omega (arith, product, q .0 (omega arith))),
-      λ l. omega (arith, q .1 (omega (arith, product))),
-    )
+use Rattle.path.specs.Path.{line}
+use Rattle.profile.specs.Profile.{Link, sampleOf}
+use Rattle.link.specs.Clear.{raised, T, G, need, clear, ExactlyClearAt}
+use Rattle.masts.proofs.Laws.Rounding.{rounded-up}
+use Rattle.masts.proofs.Laws.Clear.{clear-is}
 
 -- the test in millimetres, times 250 c: each of its numbers is rounded to its own side
 unrounded : (n m i A B t g c : ℕ) {first last top bulge : ℕ} → n * (t + g) ≤ m * A + i * B
@@ -33,7 +24,7 @@ unrounded n m i A B t g c h f l u v =
       mul-le-mul-left (250 * n) v,
     )
 
--- at one sample ..
+-- the exact test holds at a sample at which the test in millimetres does
 pub exactly-clear-at : (l : Link) (a b i : ℕ) → 1 ≤ l .path .n
     → need l i ≤ line (l .path .n) (raised (sampleOf (l .profile) 0) a) (raised (sampleOf (l .profile) (l .path .n)) b) i → ExactlyClearAt l a b i
 unfolding need T G
@@ -43,7 +34,7 @@ exactly-clear-at l a b i some h =
     let bulge = rounded-up (l .path .q * i * (n - i)) (17000 * (n * n)) _ (omega (arith, mul-le-mul some some)) .0 (le-refl _) in
     unrounded n (n - i) i _ _ _ _ _ h (omega arith) (omega arith) top bulge
 
--- .. and so at each of a clear path
+-- the exact test holds at each sample of a clear path
 pub exactly-clear : (l : Link) (a b : ℕ) → clear l a b ≡ true → (i : ℕ) → 1 ≤ i → i < l .path .n → ExactlyClearAt l a b i
 unfolding clear
 exactly-clear l a b t i s h = exactly-clear-at l a b i (omega arith) (clear-is (need l) (l .path .n) _ _ .0 t i s h)

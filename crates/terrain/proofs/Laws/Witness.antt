@@ -1,5 +1,5 @@
--- Some file passes the check, and a point of it is read: so no law of a file that passes speaks of nothing. In the file rectangle 50 has record 7,
--- M is 7, and every other byte is 0. The least file that there is passes too. Assumes nothing.
+-- Some file passes the check, so no law of a file that passes speaks of nothing. In the file rectangle 50 has record 7, M is 7, and every other byte
+-- is 0. The least file that there is passes too. Assumes nothing.
 use mathlib.Core.Path.{_≡_, refl, sym, _∙_}
 use mathlib.Core.Logic.{_⊎_, inl, inr}
 use mathlib.Core.List.{List}
@@ -8,48 +8,41 @@ use native.Mathlib.Decide.{ℕ-discrete}
 use native.Mathlib.Omega.{arith}
 use lib.ListN.{length, getD, set, replicate, length-set, length-replicate, getD-replicate}
 use lib.Seq.{getD-set-other}
-use Rattle.ground.specs.Outcome.{given}
-use Rattle.ground.specs.Measure.{metres}
-use Rattle.ground.specs.Boundary.{yB, rows, named}
-use Rattle.ground.specs.Ground.{onGround, holds}
-use Rattle.ground.specs.Place.{weightsOf, placeAt, placeOf}
-use Rattle.ground.specs.declared.point.Point.{Point}
-use Rattle.terrain.specs.Bytes.{nth, recordBytes}
-use Rattle.terrain.specs.Index.{position, highest, Passes}
-use Rattle.terrain.specs.Record.{entry}
-use Rattle.terrain.specs.Reading.{reading}
-use Rattle.terrain.specs.declared.reading.Reading.{Reading}
-use Rattle.terrain.proofs.Laws.Checked.{check-passes}
-use Rattle.terrain.proofs.Laws.Reading.{read-exactly}
+use Rattle.index.specs.Bytes.{nth}
+use Rattle.index.specs.Index.{position, highest, Passes}
 
-unfoldable zeros : List ℕ
-zeros = replicate 7168 0
+-- the bytes of seven records, all 0
+unfoldable blank : List ℕ
+blank = replicate 7168 0
 
+-- position 50 and position 3072 hold 7
 unfoldable pub file : List ℕ
-unfolding zeros
-file = set (set zeros 99 7) 6143 7
+unfolding blank
+file = set (set blank 99 7) 6143 7
 
-zeros-long : length zeros ≡ 7168
-unfolding zeros
-zeros-long = length-replicate {A = ℕ} 7168 0
+blank-long : length blank ≡ 7168
+unfolding blank
+blank-long = length-replicate {A = ℕ} 7168 0
 
 long : length file ≡ 7168
 unfolding file
-long = simp (length-set, zeros-long)
+long = simp (length-set, blank-long)
 
 zero-at : (i : ℕ) → i < 7168 → (i ≡ 99 → ⊥) → (i ≡ 6143 → ⊥) → getD file i 0 ≡ 0
-unfolding file zeros
-zero-at i h a b = getD-set-other (set zeros 99 7) 6143 i 7 0 b ∙ getD-set-other zeros 99 i 7 0 a ∙ getD-replicate 7168 i 0 0 h
+unfolding file blank
+zero-at i h a b = getD-set-other (set blank 99 7) 6143 i 7 0 b ∙ getD-set-other blank 99 i 7 0 a ∙ getD-replicate 7168 i 0 0 h
 
--- what the index holds
+-- position 50 holds 7
 at-50 : position file 50 ≡ 7
-unfolding nth file zeros
+unfolding nth file blank
 at-50 = refl
 
+-- M is 7
 M : highest file ≡ 7
-unfolding nth file zeros
+unfolding nth file blank
 M = refl
 
+-- the other positions hold 0
 empty : (n : ℕ) → 1 ≤ n → n ≤ 3071 → (n ≡ 50 → ⊥) → position file n ≡ 0
 unfolding nth
 empty n a b c =
@@ -58,6 +51,7 @@ empty n a b c =
       zero-at (2 * (n - 1) + 1) (omega arith) (λ e. c (omega arith)) (λ e. omega arith),
     )
 
+-- `file` passes, on a ground of 28 rows
 pub some-passes : Passes file 28
 some-passes =
     record {
@@ -77,7 +71,7 @@ some-passes =
     once m n a b c e (yes q) = sym e ∙ empty m a (omega arith) (λ r. omega arith)
     once m n a b c e (no q) = empty n (omega arith) (omega arith) q
 
--- So does the least file, of six records, which covers nothing: M is 6.
+-- the least file: six records, which cover nothing, and M is 6
 unfoldable pub least : List ℕ
 least = set (replicate 6144 0) 6143 6
 
@@ -96,6 +90,7 @@ least-empty n a b =
     λ i h. getD-set-other (replicate 6144 0) 6143 i 6 0 (λ e. omega arith) ∙ getD-replicate 6144 i 0 0 (omega arith) in
     rw (zero (2 * (n - 1)) (omega arith), zero (2 * (n - 1) + 1) (omega arith))
 
+-- `least` passes, on a ground of 28 rows
 pub least-passes : Passes least 28
 least-passes =
     record {
@@ -106,16 +101,3 @@ least-passes =
       once = λ m n a b c e. least-empty n (omega arith) (omega arith);
       rest = λ n a b. least-empty n (omega arith) b;
     }
-
--- at the south-west corner of rectangle 50
-abbrev pub corner : Point
-corner = record { zone = 17; easting = metres 500000; northing = metres 4433000 }
-
-pub some-read : (r : Reading) × (reading file 40 17 corner ≡ given r)
-unfolding yB rows named onGround holds weightsOf placeAt placeOf nth recordBytes entry file zeros
-some-read =
-    read-exactly file 40 17 _ (check-passes file 40 17 refl some-passes) corner refl .1
-    (record {
-      covered = refl;
-      heights = record { sw = λ l e. omega arith; se = λ l e. omega arith; nw = λ l e. omega arith; ne = λ l e. omega arith };
-    })

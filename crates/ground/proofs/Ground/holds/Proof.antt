@@ -4,12 +4,9 @@ use Rattle.ground.specs.Ground.{onGround, holds}
 use Rattle.ground.proofs.Ground.holds.Statement.{statement}
 use Rattle.ground.proofs.Ground.holds.Tie as tie
 
-in-units-requires : tie.Need-in-units-requires
-in-units-requires c κs = search needs
-
 returns : tie.Need-returns
 unfolding onGround holds
 returns c = rw (c .before .before .before .before .in-units .ensures)
 
 pub holds-spec : {M : Type 1} → statement M
-holds-spec = tie.close (tie.spec in-units-requires returns)
+holds-spec = tie.close (tie.spec (search needs) returns)

@@ -11,21 +11,12 @@ use Rattle.ground.proofs.Laws.Ground.{held}
 use Rattle.ground.proofs.Ground.locate.Statement.{statement}
 use Rattle.ground.proofs.Ground.locate.Tie as tie
 
-holds-requires : tie.Need-holds-requires
-holds-requires c κs = search needs
-
 returns : tie.Need-returns
 returns c = simp (fails (c .before .holds .ensures) (c .if1 .taken))
 
 -- past the test
 on : (c : tie.Else1) → holds (c .before .before .args .self) (c .before .before .args .point) ≡ true
 on c = passes (c .before .holds .ensures) (c .if1 .left)
-
-in-units-requires : tie.Need-in-units-requires
-in-units-requires c κs = search needs
-
-in-units-requires-2 : tie.Need-in-units-requires-2
-in-units-requires-2 c κs = search needs
 
 sub-t9 : tie.Need-sub-t9
 sub-t9 c = rw (c .before .before .in-units .ensures) (omega (arith, held _ _ (on (c .before .before .before))))
@@ -34,12 +25,6 @@ sub-t9-2 : tie.Need-sub-t9-2
 sub-t9-2 c =
     rw (c .before .before .before .in-units2 .ensures)
     (held _ _ (on (c .before .before .before .before .before)) .south)
-
-past-unit-requires : tie.Need-past-unit-requires
-past-unit-requires c κs = search needs
-
-past-unit-requires-2 : tie.Need-past-unit-requires-2
-past-unit-requires-2 c κs = search needs
 
 at-requires : tie.Need-at-requires
 at-requires c κs = rw (c .before .past-unit .ensures, c .past-unit2 .ensures) (omega arith)
@@ -60,14 +45,4 @@ returns-2 c =
 pub locate-spec : {M : Type 1} → statement M
 locate-spec =
     tie.close
-    (tie.spec
-    holds-requires
-    returns
-    in-units-requires
-    in-units-requires-2
-    sub-t9
-    sub-t9-2
-    past-unit-requires
-    past-unit-requires-2
-    at-requires
-    returns-2)
+    (tie.spec (search needs) returns (search needs) (search needs) sub-t9 sub-t9-2 (search needs) (search needs) at-requires returns-2)

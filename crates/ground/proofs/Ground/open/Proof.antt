@@ -13,9 +13,6 @@ use Rattle.ground.proofs.Laws.Ground.{named-is}
 use Rattle.ground.proofs.Ground.open.Statement.{statement}
 use Rattle.ground.proofs.Ground.open.Tie as tie
 
-are-named-requires : tie.Need-are-named-requires
-are-named-requires c κs = search needs
-
 returns : tie.Need-returns
 returns c = simp (fails (c .before .are-named .ensures) (c .if1 .taken))
 
@@ -25,9 +22,6 @@ are-named c = passes (c .before .are-named .ensures) (c .if1 .left)
 
 fourth : (c : tie.Else1) → (c .before .before .args .base / 4 < 21) × (4 * (c .before .before .args .base / 4) ≡ c .before .before .args .base)
 fourth c = base-at _ (named-is _ _ (are-named c) .base)
-
-cast-boundaries : tie.Need-cast-boundaries
-cast-boundaries c = search needs
 
 boundaries-requires : tie.Need-boundaries-requires
 boundaries-requires c κs = fourth c .0
@@ -42,6 +36,4 @@ returns-2 c =
     simp (file .boundaries .ensures, fourth (file .before) .1, are-named (file .before))
 
 pub open-spec : {M : Type 1} → statement M
-open-spec =
-    tie.close
-    (tie.spec are-named-requires returns cast-boundaries boundaries-requires sub-t8 returns-2)
+open-spec = tie.close (tie.spec (search needs) returns (search needs) boundaries-requires sub-t8 returns-2)

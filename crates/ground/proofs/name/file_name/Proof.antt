@@ -10,9 +10,6 @@ use Rattle.ground.proofs.Laws.Ground.{named-is}
 use Rattle.ground.proofs.name.file_name.Statement.{statement}
 use Rattle.ground.proofs.name.file_name.Tie as tie
 
-are-named-requires : tie.Need-are-named-requires
-are-named-requires c κs = search needs
-
 returns : tie.Need-returns
 returns c = simp (fails (c .before .are-named .ensures) (c .if1 .taken))
 
@@ -40,12 +37,4 @@ returns-2 c = simp (are-named (c .before), c .letter-of .ensures)
 pub file-name-spec : {M : Type 1} → statement M
 file-name-spec =
     tie.close
-    (tie.spec
-    are-named-requires
-    returns
-    letter-of-requires
-    cast-t8
-    add-t9
-    cast-t11
-    add-t12
-    returns-2)
+    (tie.spec (search needs) returns letter-of-requires cast-t8 add-t9 cast-t11 add-t12 returns-2)

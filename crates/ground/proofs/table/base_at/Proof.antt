@@ -10,21 +10,6 @@ use Rattle.ground.proofs.table.base_at.Tie as tie
 returns : tie.Need-returns
 returns c = sym (ap baseAnswer (base-none _ (c .if1 .taken)))
 
-cast-boundaries : tie.Need-cast-boundaries
-cast-boundaries c = search needs
-
-boundaries-requires : tie.Need-boundaries-requires
-boundaries-requires c κs = search needs
-
-mul-base : tie.Need-mul-base
-mul-base c = search needs
-
-add-base : tie.Need-add-base
-add-base c = search needs
-
-mul-base-2 : tie.Need-mul-base-2
-mul-base-2 c = search needs
-
 returns-2 : tie.Need-returns-2
 returns-2 c =
     let file = c .before .before .before .boundaries .ensures in
@@ -38,12 +23,4 @@ returns-3 c =
 pub base-at-spec : {M : Type 1} → statement M
 base-at-spec =
     tie.close
-    (tie.spec
-    returns
-    cast-boundaries
-    boundaries-requires
-    mul-base
-    add-base
-    mul-base-2
-    returns-2
-    returns-3)
+    (tie.spec returns (search needs) (search needs) (search needs) (search needs) (search needs) returns-2 returns-3)

@@ -3,14 +3,8 @@ use borrow.Author.Needs.{needs}
 use Rattle.ground.proofs.table.base_of.Statement.{statement}
 use Rattle.ground.proofs.table.base_of.Tie as tie
 
-in-units-requires : tie.Need-in-units-requires
-in-units-requires c κs = search needs
-
-base-at-requires : tie.Need-base-at-requires
-base-at-requires c κs = search needs
-
 returns : tie.Need-returns
 returns c = rw (c .before .in-units .ensures) at (c .base-at .ensures)
 
 pub base-of-spec : {M : Type 1} → statement M
-base-of-spec = tie.close (tie.spec in-units-requires base-at-requires returns)
+base-of-spec = tie.close (tie.spec (search needs) (search needs) returns)

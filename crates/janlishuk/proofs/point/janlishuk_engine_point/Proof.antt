@@ -1,21 +1,9 @@
 -- `janlishuk_engine_point` meets its contract, case by case. Assumes nothing.
 use mathlib.Core.Path.{refl}
 use borrow.Author.Needs.{needs}
-use Rattle.terrain.proofs.Laws.Engine.{nought}
+use Rattle.reading.proofs.Laws.Engine.{nought}
 use Rattle.janlishuk.proofs.point.janlishuk_engine_point.Statement.{statement}
 use Rattle.janlishuk.proofs.point.janlishuk_engine_point.Tie as tie
-
-engine-point-requires : tie.Need-engine-point-requires
-engine-point-requires c κs = search needs
-
-enum-known-metres : tie.Need-enum-known-metres
-enum-known-metres c = search needs
-
-enum-known-metres-2 : tie.Need-enum-known-metres-2
-enum-known-metres-2 c = search needs
-
-enum-known-refusal : tie.Need-enum-known-refusal
-enum-known-refusal c = search needs
 
 returns : tie.Need-returns
 returns c = (simp (← (rw (c .before .metres .given .1) at (c .before .before .before .engine-point .ensures .0))), refl)
@@ -29,11 +17,4 @@ returns-3 c = (simp (← (rw (c .before .refusal .given .1) at (c .before .befor
 pub janlishuk-engine-point-spec : {M : Type 1} → statement M
 janlishuk-engine-point-spec =
     tie.close
-    (tie.spec
-    engine-point-requires
-    enum-known-metres
-    enum-known-metres-2
-    enum-known-refusal
-    returns
-    returns-2
-    returns-3)
+    (tie.spec (search needs) (search needs) (search needs) (search needs) returns returns-2 returns-3)

@@ -22,12 +22,6 @@ mul-over-2 c = omega (arith, bounds (c .before))
 mul-result : tie.Need-mul-result
 mul-result c = omega (arith, bounds (c .before .before))
 
-sub-result : tie.Need-sub-result
-sub-result c = search needs
-
-cast-result : tie.Need-cast-result
-cast-result c = search needs
-
 mul-result-2 : tie.Need-mul-result-2
 mul-result-2 c = omega (arith, bounds (c .before .before .before))
 
@@ -52,16 +46,5 @@ returns c = refl
 pub curve-spec : {M : Type 1} → statement M
 curve-spec =
     tie.close
-    (tie.spec
-    mul-over
-    cast-over
-    mul-over-2
-    mul-result
-    sub-result
-    cast-result
-    mul-result-2
-    sub-result-2
-    add-result
-    div-result
-    cast-result-2
-    returns)
+    (tie.spec mul-over cast-over mul-over-2 mul-result (search needs) (search needs) mul-result-2 sub-result-2 add-result div-result
+    cast-result-2 returns)

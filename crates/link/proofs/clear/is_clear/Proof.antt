@@ -4,10 +4,10 @@ use mathlib.Core.Path.{_≡_, sym}
 use Prim.Native.Nat.{_-_}
 use native.Mathlib.Omega.{arith}
 use borrow.Author.Needs.{needs}
-use Rattle.link.specs.Profile.{Link, linkOf, sampleOf}
+use Rattle.profile.specs.Profile.{Link, linkOf, sampleOf}
 use Rattle.link.specs.Clear.{raised, need, clear}
 use Rattle.link.proofs.Laws.Bounds.{raised-most}
-use Rattle.link.proofs.Laws.Clear.{ClearTo, clear-none, clear-more, clear-all, blocked}
+use Rattle.masts.proofs.Laws.Clear.{ClearTo, clear-none, clear-more, clear-all, blocked}
 use Rattle.link.proofs.clear.is_clear.Statement.{statement}
 use Rattle.link.proofs.clear.is_clear.Tie as tie
 
@@ -33,14 +33,8 @@ last c = rw (c .before .sample-of2 .ensures) at (c .raised2 .ensures)
 sample-of-requires : tie.Need-sample-of-requires Inv-loop μ-loop
 sample-of-requires c κs = (omega arith, c .pre .0 .codes 0)
 
-raised-requires : tie.Need-raised-requires Inv-loop μ-loop
-raised-requires c κs = search needs
-
 sample-of-requires-2 : tie.Need-sample-of-requires-2 Inv-loop μ-loop
 sample-of-requires-2 c κs = (omega arith, c .before .before .pre .0 .codes (c .before .before .args .path .n))
-
-raised-requires-2 : tie.Need-raised-requires-2 Inv-loop μ-loop
-raised-requires-2 c κs = search needs
 
 loop-holds : tie.Need-loop-holds Inv-loop μ-loop
 loop-holds c = clear-none _ _ _ _ (omega arith)
@@ -49,13 +43,8 @@ line-requires : tie.Need-line-requires Inv-loop μ-loop
 line-requires c κs =
     let start = c .before .before .before .before .before .before in
     let A = raised-most (link start) 0 (start .args .a) (start .pre .0) (omega arith) in
-    let B = raised-most (link start) (start .args .path .n) (start .args .b) (start .pre .0) (omega arith) in (
-      record { some = omega arith; most = omega arith; within = omega arith },
-      omega (arith, first (c .before .before .before .before), A, last (c .before .before), B),
-    )
-
-need-requires : tie.Need-need-requires Inv-loop μ-loop
-need-requires c κs = search needs
+    let B = raised-most (link start) (start .args .path .n) (start .args .b) (start .pre .0) (omega arith) in
+    omega (arith, first (c .before .before .before .before), last (c .before .before))
 
 returns : tie.Need-returns Inv-loop μ-loop
 unfolding clear
@@ -67,12 +56,6 @@ returns c =
     let B = at .raised2 .result in
     let no = blocked (need (link start)) (start .args .path .n) A B (loop .loop .i) (omega arith) (omega arith) (omega arith) in
     rw (first (at .before .before), last at) at (sym no)
-
-add-i : tie.Need-add-i Inv-loop μ-loop
-add-i c = search needs
-
-loop-less : tie.Need-loop-less Inv-loop μ-loop
-loop-less c = search needs
 
 loop-again : tie.Need-loop-again Inv-loop μ-loop
 loop-again c =
@@ -92,18 +75,5 @@ returns-2 c =
 pub is-clear-spec : {M : Type 1} → statement M
 is-clear-spec =
     tie.close
-    (tie.spec
-    Inv-loop
-    μ-loop
-    sample-of-requires
-    raised-requires
-    sample-of-requires-2
-    raised-requires-2
-    loop-holds
-    line-requires
-    need-requires
-    returns
-    add-i
-    loop-less
-    loop-again
-    returns-2)
+    (tie.spec Inv-loop μ-loop sample-of-requires (search needs) sample-of-requires-2 (search needs) loop-holds line-requires (λ c κs. search needs)
+    returns (search needs) (search needs) loop-again returns-2)

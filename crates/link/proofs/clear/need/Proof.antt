@@ -3,7 +3,7 @@ use mathlib.Core.Path.{_≡_}
 use Prim.Native.Nat.{_+_}
 use native.Mathlib.Omega.{arith}
 use borrow.Author.Needs.{needs}
-use Rattle.link.specs.Profile.{linkOf, sampleOf}
+use Rattle.profile.specs.Profile.{linkOf, sampleOf}
 use Rattle.link.specs.Clear.{T, G, need}
 use Rattle.link.proofs.Laws.Bounds.{height-most, need-most}
 use Rattle.link.proofs.clear.need.Statement.{statement}
@@ -14,9 +14,6 @@ sample-of-requires c κs = (omega arith, c .pre .0 .codes (c .args .i))
 
 top-requires : tie.Need-top-requires
 top-requires c κs = rw (c .sample-of .ensures) (c .before .pre .0 .heights (c .before .args .i))
-
-curve-requires : tie.Need-curve-requires
-curve-requires c κs = search needs
 
 -- T + G
 height : (c : tie.After-curve) → (
@@ -42,6 +39,4 @@ unfolding need
 returns c = rw (height (c .before))
 
 pub need-spec : {M : Type 1} → statement M
-need-spec =
-    tie.close
-    (tie.spec sample-of-requires top-requires curve-requires add-result mul-result returns)
+need-spec = tie.close (tie.spec sample-of-requires top-requires (search needs) add-result mul-result returns)

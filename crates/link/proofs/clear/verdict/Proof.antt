@@ -4,30 +4,21 @@ use mathlib.Core.Bool.{Bool, true, false}
 use borrow.Author.Needs.{needs}
 use mir.Val.{boolByte}
 use Rattle.ground.specs.Outcome.{given}
-use Rattle.link.specs.Profile.{zeros}
+use Rattle.profile.specs.Profile.{zeros}
 use Rattle.link.specs.Clear.{verdict, verdictAnswer}
-use Rattle.link.proofs.Laws.Link.{link-is}
+use Rattle.profile.proofs.Laws.Link.{sampled-is}
 use Rattle.link.proofs.clear.verdict.Statement.{statement}
 use Rattle.link.proofs.clear.verdict.Tie as tie
 
-link-requires : tie.Need-link-requires
+read-samples-requires : tie.Need-read-samples-requires
 unfolding zeros
-link-requires c κs = search needs
-
-enum-known-path : tie.Need-enum-known-path
-enum-known-path c = search needs
+read-samples-requires c κs = search needs
 
 is-clear-requires : tie.Need-is-clear-requires
 is-clear-requires c κs =
     let at = c .before .before .before in
-    let l = link-is _ _ _ _ _ (sym (rw (at .path .given .1) at (at .before .before .link .ensures))) in
+    let l = sampled-is (at .before .before .read-samples .ensures) (at .path .given .1) in
     (l .sound, (l .asked .a, l .asked .b))
-
-cast-t21 : tie.Need-cast-t21
-cast-t21 c = search needs
-
-enum-known-refusal : tie.Need-enum-known-refusal
-enum-known-refusal c = search needs
 
 -- the answer of a truth value
 answered : (t : Bool) → record { refusal = 0; place = 0; clear = boolByte t } ≡ verdictAnswer (given t)
@@ -38,21 +29,14 @@ returns : tie.Need-returns
 unfolding verdict
 returns c =
     let at = c .before .before .before .before in
-    let e = rw (at .path .given .1) at (at .before .before .link .ensures) in
+    let e = rw (at .path .given .1) at (at .before .before .read-samples .ensures) in
     simp (← e, ← c .is-clear .ensures) (answered (c .is-clear .result))
 
 returns-2 : tie.Need-returns-2
 unfolding verdict
-returns-2 c = simp (← (rw (c .before .refusal .given .1) at (c .before .before .before .link .ensures)))
+returns-2 c = simp (← (rw (c .before .refusal .given .1) at (c .before .before .before .read-samples .ensures)))
 
 pub verdict-spec : {M : Type 1} → statement M
 verdict-spec =
     tie.close
-    (tie.spec
-    link-requires
-    enum-known-path
-    is-clear-requires
-    cast-t21
-    enum-known-refusal
-    returns
-    returns-2)
+    (tie.spec read-samples-requires (search needs) is-clear-requires (search needs) (search needs) returns returns-2)

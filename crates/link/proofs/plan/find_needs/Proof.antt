@@ -4,7 +4,7 @@ use mathlib.Core.Path.{_≡_}
 use Prim.Native.Nat.{_-_, _≤_}
 use native.Mathlib.Omega.{arith}
 use borrow.Author.Needs.{needs}
-use Rattle.link.specs.Profile.{linkOf}
+use Rattle.profile.specs.Profile.{linkOf}
 use Rattle.link.specs.Clear.{need}
 use Rattle.link.specs.Inside.{Needed}
 use Rattle.link.proofs.Laws.Needs.{none-needed, one-needed}
@@ -20,24 +20,6 @@ abbrev μ-loop : tie.MeasureT-loop
 loop-holds : tie.Need-loop-holds Inv-loop μ-loop
 loop-holds c = (omega arith, none-needed (c .pre .1))
 
-need-requires : tie.Need-need-requires Inv-loop μ-loop
-need-requires c κs = search needs
-
-cast-needs : tie.Need-cast-needs Inv-loop μ-loop
-cast-needs c = search needs
-
-mul-needs : tie.Need-mul-needs Inv-loop μ-loop
-mul-needs c = search needs
-
-element-write-needs : tie.Need-element-write-needs Inv-loop μ-loop
-element-write-needs c = search needs
-
-add-i : tie.Need-add-i Inv-loop μ-loop
-add-i c = search needs
-
-loop-less : tie.Need-loop-less Inv-loop μ-loop
-loop-less c = search needs
-
 loop-again : tie.Need-loop-again Inv-loop μ-loop
 loop-again c =
     let at = c .before .before in
@@ -51,15 +33,5 @@ returns c =
 pub find-needs-spec : {M : Type 1} → statement M
 find-needs-spec =
     tie.close
-    (tie.spec
-    Inv-loop
-    μ-loop
-    loop-holds
-    need-requires
-    cast-needs
-    mul-needs
-    element-write-needs
-    add-i
-    loop-less
-    loop-again
-    returns)
+    (tie.spec Inv-loop μ-loop loop-holds (λ c κs. search needs) (search needs) (search needs) (search needs) (search needs) (search needs)
+    loop-again returns)

@@ -3,9 +3,9 @@
 use mathlib.Core.Path.{_≡_}
 use native.Mathlib.Omega.{arith}
 use borrow.Author.Needs.{needs}
-use Rattle.link.specs.Profile.{Link, linkOf, sampleOf}
+use Rattle.profile.specs.Profile.{Link, linkOf, sampleOf}
 use Rattle.link.specs.Clear.{raised}
-use Rattle.link.specs.Plan.{plannedMeans}
+use Rattle.masts.specs.Plan.{plannedMeans}
 use Rattle.link.proofs.Laws.Needs.{sides, demand-of-search}
 use Rattle.link.proofs.plan.plan_of.Statement.{statement}
 use Rattle.link.proofs.plan.plan_of.Tie as tie
@@ -14,22 +14,13 @@ use Rattle.link.proofs.plan.plan_of.Tie as tie
 abbrev link : tie.Start → Link
 link c = linkOf (c .args .path) (c .args .heights .now) (c .args .codes .now)
 
-find-needs-requires : tie.Need-find-needs-requires
-find-needs-requires c κs = search needs
-
 sample-of-requires : tie.Need-sample-of-requires
 sample-of-requires c κs = (omega arith, c .before .before .pre .0 .codes 0)
-
-raised-requires : tie.Need-raised-requires
-raised-requires c κs = search needs
 
 sample-of-requires-2 : tie.Need-sample-of-requires-2
 sample-of-requires-2 c κs =
     let start = c .before .before .before .before in
     (start .pre .0 .path .most, start .pre .0 .codes (start .args .path .n))
-
-raised-requires-2 : tie.Need-raised-requires-2
-raised-requires-2 c κs = search needs
 
 -- its ends without masts
 first : (c : tie.After-raised) → c .raised .result ≡ raised (sampleOf (link (c .before .before .before .before) .profile) 0) 0
@@ -59,11 +50,4 @@ returns c =
 pub plan-of-spec : {M : Type 1} → statement M
 plan-of-spec =
     tie.close
-    (tie.spec
-    find-needs-requires
-    sample-of-requires
-    raised-requires
-    sample-of-requires-2
-    raised-requires-2
-    search-requires
-    returns)
+    (tie.spec (λ c κs. search needs) sample-of-requires (search needs) sample-of-requires-2 (search needs) search-requires returns)

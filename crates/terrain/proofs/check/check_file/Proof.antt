@@ -7,22 +7,13 @@ use Rattle.ground.specs.Outcome.{given}
 use Rattle.ground.specs.Ground.{opened}
 use Rattle.ground.proofs.Laws.Test.{passes, fails}
 use Rattle.ground.proofs.Laws.Ground.{opened-is}
-use Rattle.terrain.specs.Index.{wholeRecords}
+use Rattle.index.specs.Bytes.{wholeRecords}
 use Rattle.terrain.proofs.Laws.Checked.{checked-steps}
 use Rattle.terrain.proofs.check.check_file.Statement.{statement}
 use Rattle.terrain.proofs.check.check_file.Tie as tie
 
-is-whole-requires : tie.Need-is-whole-requires
-is-whole-requires c κs = search needs
-
 returns : tie.Need-returns
 returns c = simp (checked-steps, fails (c .before .is-whole .ensures) (c .if1 .taken))
-
-open-requires : tie.Need-open-requires
-open-requires c κs = search needs
-
-enum-known-ground : tie.Need-enum-known-ground
-enum-known-ground c = search needs
 
 -- the ground that was opened
 ground : (c : tie.After-ground) → (
@@ -40,9 +31,6 @@ check-on-requires c κs =
     let t = opened-is _ _ _ (ground (c .before)) in
     (whole (c .before .before .before .before), omega arith)
 
-enum-known-number : tie.Need-enum-known-number
-enum-known-number c = search needs
-
 returns-2 : tie.Need-returns-2
 returns-2 c =
     let on = c .before .before in
@@ -57,12 +45,4 @@ returns-3 c =
 pub check-file-spec : {M : Type 1} → statement M
 check-file-spec =
     tie.close
-    (tie.spec
-    is-whole-requires
-    returns
-    open-requires
-    enum-known-ground
-    check-on-requires
-    enum-known-number
-    returns-2
-    returns-3)
+    (tie.spec (search needs) returns (search needs) (search needs) check-on-requires (search needs) returns-2 returns-3)

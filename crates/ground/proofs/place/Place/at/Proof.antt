@@ -5,15 +5,9 @@ use Rattle.ground.specs.Place.{placeAt}
 use Rattle.ground.proofs.place.Place.at.Statement.{statement}
 use Rattle.ground.proofs.place.Place.at.Tie as tie
 
-at-requires : tie.Need-at-requires
-at-requires c κs = search needs
-
-at-requires-2 : tie.Need-at-requires-2
-at-requires-2 c κs = search needs
-
 returns : tie.Need-returns
 unfolding placeAt
 returns c = simp (c .before .before .before .at .ensures, c .at2 .ensures, mod-def)
 
 pub at-spec : {M : Type 1} → statement M
-at-spec = tie.close (tie.spec at-requires at-requires-2 returns)
+at-spec = tie.close (tie.spec (search needs) (search needs) returns)

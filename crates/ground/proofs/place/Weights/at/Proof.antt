@@ -7,12 +7,6 @@ use Rattle.ground.proofs.Laws.Place.{weight-fits}
 use Rattle.ground.proofs.place.Weights.at.Statement.{statement}
 use Rattle.ground.proofs.place.Weights.at.Tie as tie
 
-sub-gx : tie.Need-sub-gx
-sub-gx c = search needs
-
-sub-gy : tie.Need-sub-gy
-sub-gy c = search needs
-
 mul-t5 : tie.Need-mul-t5
 mul-t5 c = weight-fits _ _ (omega arith) (omega arith)
 
@@ -30,4 +24,4 @@ unfolding weightsOf
 returns c = refl
 
 pub at-spec : {M : Type 1} → statement M
-at-spec = tie.close (tie.spec sub-gx sub-gy mul-t5 mul-t6 mul-t7 mul-t8 returns)
+at-spec = tie.close (tie.spec (search needs) (search needs) mul-t5 mul-t6 mul-t7 mul-t8 returns)

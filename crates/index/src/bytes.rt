@@ -1,0 +1,46 @@
+// The bytes of a file: its 16-bit numbers, how many records they make, and a record as a part of them.
+ghost use mathlib.Core.Path.{_≡_};
+ghost use Prim.Native.Nat.{_*_, _≤_};
+ghost use lib.ListN.{length};
+ghost use Rattle.index.specs.Bytes.{nth, wholeRecords, recordStart, recordBytes, Part};
+use ground::rectangle::Rectangle;
+
+// Bytes of a record: two for each word of a rectangle.
+pub const RECORD: usize = 2 * Rectangle::WIDE * Rectangle::HIGH;
+
+// Records that the index takes.
+pub const INDEX: usize = 6;
+
+// The most records that a file may have.
+pub const MOST_RECORDS: usize = 4096;
+
+// The position that holds the highest record number.
+pub const LAST: usize = 3072;
+
+// The n-th number of the bytes, counted from 1, high byte first: position n of a file's index, or
+// word n of a record.
+pub fn nth(bytes: &[u8], n: usize) -> u16
+    requires { ⌜ (1 ≤ n) × (2 * n ≤ length (now bytes)) ⌝ }
+    ensures { λ r. ⌜ r ≡ nth (now (bytes .entry)) n ⌝ }
+{
+    let at = 2 * (n - 1);
+    256 * bytes[at] as u16 + bytes[at + 1] as u16
+}
+
+// Whether the file's length is that of 6 to 4096 whole records.
+pub fn is_whole(file: &[u8]) -> bool
+    ensures { λ r. ⌜ r ≡ wholeRecords (now (file .entry)) ⌝ }
+{
+    let records = file.len() / RECORD;
+    (file.len() % RECORD == 0) & ((INDEX <= records) & (records <= MOST_RECORDS))
+}
+
+// Record r of the file, one past the index, as a part of it.
+pub fn cut(file: &[u8], r: usize) -> &[u8]
+    requires { ⌜ (7 ≤ r) × (1024 * r ≤ length (now file)) ⌝ }
+    ensures { λ p. ⌜ Part (file .entry) p (recordStart r) (recordBytes (now (file .entry)) r) ⌝ }
+{
+    let start = RECORD * (r - 1);
+    let end = start + RECORD;
+    &file[start..end]
+}

@@ -1,0 +1,2 @@
+-- The laws of the search for masts.
+pub mod Laws

@@ -1,0 +1,2 @@
+-- The laws of a profile.
+pub mod Laws

@@ -1,0 +1,18 @@
+-- `read_corners` meets its contract: what `lack_height` says decides between the refusal and the reading. Assumes nothing.
+use borrow.Author.Needs.{needs}
+use Rattle.reading.specs.Reading.{readCorners}
+use Rattle.reading.proofs.point.read_corners.Statement.{statement}
+use Rattle.reading.proofs.point.read_corners.Tie as tie
+
+returns : tie.Need-returns
+unfolding readCorners
+returns c = rw (← c .before .lack-height .ensures, c .if1 .taken)
+
+returns-2 : tie.Need-returns-2
+unfolding readCorners
+returns-2 c =
+    let past = c .before .before in
+    rw (← past .before .lack-height .ensures, past .if1 .left, c .before .exact-height .ensures, c .vote .ensures)
+
+pub read-corners-spec : {M : Type 1} → statement M
+read-corners-spec = tie.close (tie.spec (search needs) returns (search needs) (search needs) returns-2)
