@@ -3,10 +3,7 @@
 use mathlib.Core.Path.{_≡_, refl, sym, _∙_, ap}
 use mathlib.Core.Bool.{Bool}
 use mathlib.Core.List.{List, [], _∷_, _++_}
-use mathlib.Core.Logic.{_↔_}
 use Prim.Native.Nat.{ℕ}
-use lib.IntN.{pos}
-use lib.Ieee.{Float, binary64, ofInt}
 use denote.Ref.{RefT}
 use Rattle.ground.specs.Outcome.{refused, refusalNumber, refusalPlace}
 use Rattle.ground.specs.Measure.{metres}
@@ -17,8 +14,10 @@ use Rattle.ground.specs.declared.table.BaseAnswer.{BaseAnswer}
 use Rattle.ground.specs.declared.point.Point.{Point}
 use Rattle.ground.proofs.Laws.Outcome.{not-both}
 use Rattle.terrain.specs.Check.{checked, checkAnswer}
+use Rattle.terrain.specs.Record.{recordFor, RecordPart}
 use Rattle.terrain.specs.declared.check.Terrain.{Terrain}
 use Rattle.terrain.specs.declared.check.CheckAnswer.{CheckAnswer}
+use Rattle.terrain.specs.declared.record.Taken.{Taken}
 use Rattle.terrain.proofs.Laws.Means.{part-once, record-empty}
 use Rattle.reading.specs.Reading.{reading, readAnswer}
 use Rattle.reading.specs.Engine.{EngineValues, engine, engineMeans}
@@ -27,7 +26,7 @@ use Rattle.reading.specs.declared.point.ReadAnswer.{ReadAnswer}
 use Rattle.reading.specs.declared.engine.EnginePoint.{EnginePoint}
 use Rattle.reading.specs.declared.engine.EnginePoint.the-variants as point
 use Rattle.reading.proofs.Laws.Means.{engine-once}
-use Rattle.profile.specs.Profile.{Profile, zeros, profile, profileAnswer}
+use Rattle.profile.specs.Profile.{Profile, profile, profileAnswer}
 use Rattle.profile.specs.Row.{row, rowAnswer}
 use Rattle.profile.specs.declared.ProfileAnswer.{ProfileAnswer}
 use Rattle.profile.specs.declared.row.Row.{Row}
@@ -39,13 +38,13 @@ use Rattle.link.specs.declared.clear.VerdictAnswer.{VerdictAnswer}
 use Rattle.link.specs.declared.plan.PlanAnswer.{PlanAnswer}
 use Rattle.link.proofs.Laws.Plan.{plan-is}
 use Rattle.janlishuk.specs.Engine.{engineAnswer}
-use Rattle.janlishuk.specs.Order.{FirstOf, ofFile, ofName, ofNorthing, ofRecord, ofPoint, ofMasts, ofRow, ofPairs, ofLink}
+use Rattle.janlishuk.specs.Order.{FirstOf, ofFile, ofName, ofNorthing, ofPoint, ofReading, ofTaking, ofProfile, ofVerdict, ofPlan, ofEngineRow}
 use Rattle.janlishuk.specs.Promise.{Checks, Names, FindsBase, Reads, HandsBack, Tells, Shows, Profiles, Judges, Plans, GivesRow}
-use Rattle.janlishuk.specs.Call.{EachMeets, byPart}
+use Rattle.janlishuk.specs.Call.{EachMeets, checkShown, nameShown, baseShown, readShown, pointShown, profileShown, verdictShown, planShown, rowShown, enumShown, recordShown}
 use Rattle.janlishuk.specs.declared.point.EngineAnswer.{EngineAnswer}
 use Rattle.janlishuk.proofs.Laws.Line.{giving, some-of}
 use Rattle.janlishuk.proofs.Laws.Order.{file-order, name-order, base-order, taking-order, reading-order, profile-order, verdict-order, plan-order, row-order}
-use Rattle.janlishuk.proofs.Laws.Call.{Shape, as-struct, Entry, callsOf, each-meets, entered}
+use Rattle.janlishuk.proofs.Laws.Call.{Shape, numbered, as-struct, Entry, callsOf, each-meets, entered}
 use Rattle.janlishuk.proofs.file.janlishuk_check.Reads as janlishuk-check
 use Rattle.janlishuk.proofs.file.janlishuk_name.Reads as janlishuk-name
 use Rattle.janlishuk.proofs.file.janlishuk_base.Reads as janlishuk-base
@@ -64,59 +63,51 @@ engine-bare (point.Land m c) e = absurd (not-both (sym e))
 engine-bare (point.Water m c) e = absurd (not-both (sym e))
 engine-bare (point.Refused k) e = cc
 
--- 0 as a double
-abbrev nil : Float
-nil = ofInt binary64 (pos 0)
+-- What it is to answer an outcome with each type of answer.
+abbrev check-shape : Shape Terrain CheckAnswer checkShown
+check-shape = as-struct checkAnswer (λ o. (refl, refl)) (λ n p. refl)
 
--- How each answer shows what a call comes to: its number and place, and beside a refusal 0 in all other fields.
-abbrev check-shape : Shape Terrain CheckAnswer
-check-shape =
-    as-struct checkAnswer (λ r. r .refusal) (λ r. r .place) (λ n p. record { refusal = n; place = p; highest = 0 }) (λ o. (refl, refl)) (λ n p. refl)
+abbrev name-shape : Shape (List ℕ) NameAnswer nameShown
+name-shape = as-struct nameAnswer (λ o. (refl, refl)) (λ n p. refl)
 
-abbrev name-shape : Shape (List ℕ) NameAnswer
-name-shape =
-    as-struct nameAnswer (λ r. r .refusal) (λ r. r .place) (λ n p. record { refusal = n; place = p; name = 0 ∷ 0 ∷ 0 ∷ 0 ∷ [] }) (λ o. (refl, refl)) (λ n p. refl)
+abbrev base-shape : Shape ℕ BaseAnswer baseShown
+base-shape = as-struct baseAnswer (λ o. (refl, refl)) (λ n p. refl)
 
-abbrev base-shape : Shape ℕ BaseAnswer
-base-shape =
-    as-struct baseAnswer (λ r. r .refusal) (λ r. r .place) (λ n p. record { refusal = n; place = p; base = 0 }) (λ o. (refl, refl)) (λ n p. refl)
+abbrev read-shape : Shape Reading ReadAnswer readShown
+read-shape = as-struct readAnswer (λ o. (refl, refl)) (λ n p. refl)
 
-abbrev read-shape : Shape Reading ReadAnswer
-read-shape =
-    as-struct readAnswer (λ r. r .refusal) (λ r. r .place) (λ n p. record { refusal = n; place = p; height = 0; code = 0 }) (λ o. (refl, refl)) (λ n p. refl)
+abbrev point-shape : Shape EngineValues EngineAnswer pointShown
+point-shape = as-struct engineAnswer (λ o. (refl, refl)) (λ n p. refl)
 
-abbrev engine-shape : Shape EngineValues EngineAnswer
-engine-shape =
-    as-struct engineAnswer (λ r. r .refusal) (λ r. r .place) (λ n p. record { refusal = n; place = p; kind = 0; code = 0; metres = nil }) (λ o. (refl, refl)) (λ n p. refl)
+abbrev profile-shape : Shape Profile ProfileAnswer profileShown
+profile-shape = as-struct profileAnswer (λ o. (refl, refl)) (λ n p. refl)
 
-abbrev profile-shape : Shape Profile ProfileAnswer
-profile-shape =
-    as-struct profileAnswer (λ r. r .refusal) (λ r. r .place) (λ n p. record { refusal = n; place = p; n = 0; heights = zeros; codes = zeros }) (λ o. (refl, refl)) (λ n p. refl)
+abbrev verdict-shape : Shape Bool VerdictAnswer verdictShown
+verdict-shape = as-struct verdictAnswer (λ o. (refl, refl)) (λ n p. refl)
 
-abbrev verdict-shape : Shape Bool VerdictAnswer
-verdict-shape =
-    as-struct verdictAnswer (λ r. r .refusal) (λ r. r .place) (λ n p. record { refusal = n; place = p; clear = 0 }) (λ o. (refl, refl)) (λ n p. refl)
+abbrev plan-shape : Shape Masts PlanAnswer planShown
+plan-shape = as-struct planAnswer (λ o. (refl, refl)) (λ n p. refl)
 
-abbrev plan-shape : Shape Masts PlanAnswer
-plan-shape =
-    as-struct planAnswer (λ r. r .refusal) (λ r. r .place) (λ n p. record { refusal = n; place = p; first = 0; second = 0 }) (λ o. (refl, refl)) (λ n p. refl)
+abbrev row-shape : Shape Row RowAnswer rowShown
+row-shape = as-struct rowAnswer (λ o. (refl, refl)) (λ n p. refl)
 
-abbrev row-shape : Shape Row RowAnswer
-row-shape =
-    as-struct rowAnswer (λ r. r .refusal) (λ r. r .place) (λ n p. record { refusal = n; place = p; row = record { height = nil; share = nil } }) (λ o. (refl, refl)) (λ n p. refl)
-
--- the point as an enum, by what it means; a refusal has its number and nothing else
-abbrev enum-shape : Shape EngineValues EnginePoint
+-- the point as an enum answers what it means
+abbrev enum-shape : Shape EngineValues EnginePoint enumShown
 enum-shape =
+    numbered (λ o r. engineMeans r ≡ o) (λ o r e. (ap refusalNumber e, ap refusalPlace e)) (λ n p r e. engine-bare r e) (λ o r s e f. engine-once r s (e ∙ sym f))
+
+-- the record that is handed back of a file for a point: it is empty exactly where nothing is taken
+abbrev record-shape : RefT (List ℕ) → ℕ → ℕ → Point → Shape Taken (RefT (List ℕ)) recordShown
+record-shape file b z p =
+    let found = recordFor (file .now) b z p in
     record {
-      Means = λ o r. engineMeans r ≡ o;
-      refusal = λ r. refusalNumber (engineMeans r);
-      place = λ r. refusalPlace (engineMeans r);
-      bare = λ n p. point.Refused n;
-      is-refusal = λ o r e. ap refusalNumber e;
-      is-place = λ o r e. ap refusalPlace e;
-      is-bare = λ n p r e. engine-bare r e;
-      once = λ o r s e f. engine-once r s (e ∙ sym f);
+      Means = λ o r. (o ≡ found) × RecordPart file r found;
+      says = λ o r h i.
+          let empty = record-empty (file .now) b z p in
+          let some = some-of (rw (h .0) at i) in
+          rw (h .1 .bytes) ((λ e. some .0 (empty .0 e)), λ y. empty .1 (some .1 y));
+      bare = λ o r h. tt;
+      once = λ o r s h k. part-once (h .1) (k .1);
     }
 
 -- `janlishuk_check`: 1, 2, 3
@@ -124,10 +115,11 @@ abbrev pub check-call : Entry
 check-call =
     entered janlishuk-check.Asked janlishuk-check.Learnt (record {
       promised = λ κs (file, (base, (zone, end))) r (after, rest). Checks (file .now) (after .now) base zone r;
-      outcome = λ κs (file, (base, (zone, end))). checked (file .now) base zone;
       order = λ κs (file, (base, (zone, end))). ofFile (file .now) base zone;
-      shape = λ κs. check-shape;
+      shown = λ κs. checkShown;
       Unwritten = λ κs (file, (base, (zone, end))) x. x .0 .now ≡ file .now;
+      outcome = λ κs (file, (base, (zone, end))). checked (file .now) base zone;
+      shape = λ κs a. check-shape;
       asks = λ κs a. tt;
       promises = λ κs a r x h. h;
       keeps = λ κs a r x h. h;
@@ -139,10 +131,11 @@ abbrev pub name-call : Entry
 name-call =
     entered janlishuk-name.Asked janlishuk-name.Learnt (record {
       promised = λ κs (base, (zone, end)) r x. Names base zone r;
-      outcome = λ κs (base, (zone, end)). fileName base zone;
       order = λ κs (base, (zone, end)). ofName base zone;
-      shape = λ κs. name-shape;
+      shown = λ κs. nameShown;
       Unwritten = λ κs a x. Unit {0};
+      outcome = λ κs (base, (zone, end)). fileName base zone;
+      shape = λ κs a. name-shape;
       asks = λ κs a. tt;
       promises = λ κs a r x h. h;
       keeps = λ κs a r x h. (h, tt);
@@ -154,10 +147,11 @@ abbrev pub base-call : Entry
 base-call =
     entered janlishuk-base.Asked janlishuk-base.Learnt (record {
       promised = λ κs (northing, end) r x. FindsBase northing r;
-      outcome = λ κs (northing, end). baseOf (metres northing);
       order = λ κs (northing, end). ofNorthing northing;
-      shape = λ κs. base-shape;
+      shown = λ κs. baseShown;
       Unwritten = λ κs a x. Unit {0};
+      outcome = λ κs (northing, end). baseOf (metres northing);
+      shape = λ κs a. base-shape;
       asks = λ κs a. tt;
       promises = λ κs a r x h. h;
       keeps = λ κs a r x h. (h, tt);
@@ -169,10 +163,11 @@ abbrev pub read-call : Entry
 read-call =
     entered janlishuk-read.Asked janlishuk-read.Learnt (record {
       promised = λ κs (file, (base, (zone, (spot, end)))) r (after, rest). Reads (file .now) (after .now) base zone spot r;
-      outcome = λ κs (file, (base, (zone, (spot, end)))). reading (file .now) base zone spot;
-      order = λ κs (file, (base, (zone, (spot, end)))). ofFile (file .now) base zone ++ ofPoint (file .now) base zone 0 spot;
-      shape = λ κs. read-shape;
+      order = λ κs (file, (base, (zone, (spot, end)))). ofReading (file .now) base zone spot;
+      shown = λ κs. readShown;
       Unwritten = λ κs (file, (base, (zone, (spot, end)))) x. x .0 .now ≡ file .now;
+      outcome = λ κs (file, (base, (zone, (spot, end)))). reading (file .now) base zone spot;
+      shape = λ κs a. read-shape;
       asks = λ κs a. tt;
       promises = λ κs a r x h. h;
       keeps = λ κs a r x h. h;
@@ -182,41 +177,29 @@ read-call =
 -- `record`: 1 to 5. It has no number: the part is empty exactly when a refusal holds or the rectangle is not covered.
 abbrev pub record-call : Entry
 record-call =
-    record {
-      call = record {
-        K = _;
-        A = _;
-        R = λ κs. RefT (List ℕ);
-        S = _;
-        asked = record-at.Asked;
-        told = record-at.Learnt;
-        promised = λ κs (file, (base, (zone, (spot, end)))) r (after, rest). HandsBack file after base zone spot r;
-        order = λ κs (file, (base, (zone, (spot, end)))). ofFile (file .now) base zone ++ ofRecord (file .now) base zone 0 spot;
-        shown = λ κs. byPart (λ r. r);
-        Unwritten = λ κs (file, (base, (zone, (spot, end)))) x. x .0 .now ≡ file .now;
-      };
-      meets = record {
-        keeps-promise = λ κs a r x h. h;
-        answers-or-refuses = λ κs (file, (base, (zone, (spot, end)))) r x h.
-            let empty = record-empty (file .now) base zone spot in
-            let some = some-of (taking-order (file .now) base zone spot) in
-            rw (h .0 .bytes) ((λ e. some .0 (empty .0 e)), λ y. empty .1 (some .1 y));
-        asks-nothing = λ κs a. tt;
-        carries-only = λ κs a r x h. tt;
-        never-writes = λ κs a r x h. h .1;
-        once = λ κs a r s x y h k. part-once (h .0) (k .0);
-      };
-    }
+    entered record-at.Asked record-at.Learnt (record {
+      promised = λ κs (file, (base, (zone, (spot, end)))) r (after, rest). HandsBack file after base zone spot r;
+      order = λ κs (file, (base, (zone, (spot, end)))). ofTaking (file .now) base zone spot;
+      shown = λ κs. recordShown;
+      Unwritten = λ κs (file, (base, (zone, (spot, end)))) x. x .0 .now ≡ file .now;
+      outcome = λ κs (file, (base, (zone, (spot, end)))). recordFor (file .now) base zone spot;
+      shape = λ κs (file, (base, (zone, (spot, end)))). record-shape file base zone spot;
+      asks = λ κs a. tt;
+      promises = λ κs a r x h. h;
+      keeps = λ κs a r x h. ((refl, h .0), h .1);
+      ordered = λ κs (file, (base, (zone, (spot, end)))). taking-order (file .now) base zone spot;
+    })
 
 -- `engine_point`: 1 to 6
 abbrev pub enum-call : Entry
 enum-call =
     entered engine-point.Asked engine-point.Learnt (record {
       promised = λ κs (file, (base, (zone, (spot, end)))) r (after, rest). Tells (file .now) (after .now) base zone spot r;
-      outcome = λ κs (file, (base, (zone, (spot, end)))). engine (reading (file .now) base zone spot);
-      order = λ κs (file, (base, (zone, (spot, end)))). ofFile (file .now) base zone ++ ofPoint (file .now) base zone 0 spot;
-      shape = λ κs. enum-shape;
+      order = λ κs (file, (base, (zone, (spot, end)))). ofReading (file .now) base zone spot;
+      shown = λ κs. enumShown;
       Unwritten = λ κs (file, (base, (zone, (spot, end)))) x. x .0 .now ≡ file .now;
+      outcome = λ κs (file, (base, (zone, (spot, end)))). engine (reading (file .now) base zone spot);
+      shape = λ κs a. enum-shape;
       asks = λ κs a. tt;
       promises = λ κs a r x h. h;
       keeps = λ κs a r x h. h;
@@ -228,10 +211,11 @@ abbrev pub point-call : Entry
 point-call =
     entered janlishuk-engine-point.Asked janlishuk-engine-point.Learnt (record {
       promised = λ κs (file, (base, (zone, (spot, end)))) r (after, rest). Shows (file .now) (after .now) base zone spot r;
-      outcome = λ κs (file, (base, (zone, (spot, end)))). engine (reading (file .now) base zone spot);
-      order = λ κs (file, (base, (zone, (spot, end)))). ofFile (file .now) base zone ++ ofPoint (file .now) base zone 0 spot;
-      shape = λ κs. engine-shape;
+      order = λ κs (file, (base, (zone, (spot, end)))). ofReading (file .now) base zone spot;
+      shown = λ κs. pointShown;
       Unwritten = λ κs (file, (base, (zone, (spot, end)))) x. x .0 .now ≡ file .now;
+      outcome = λ κs (file, (base, (zone, (spot, end)))). engine (reading (file .now) base zone spot);
+      shape = λ κs a. point-shape;
       asks = λ κs a. tt;
       promises = λ κs a r x h. h;
       keeps = λ κs a r x h. h;
@@ -243,10 +227,11 @@ abbrev pub profile-call : Entry
 profile-call =
     entered janlishuk-profile.Asked janlishuk-profile.Learnt (record {
       promised = λ κs (file, (base, (zone, (p, (q, end))))) r (after, rest). Profiles (file .now) (after .now) base zone p q r;
-      outcome = λ κs (file, (base, (zone, (p, (q, end))))). profile (file .now) base zone p q;
-      order = λ κs (file, (base, (zone, (p, (q, end))))). ofLink [] (file .now) base zone p q;
-      shape = λ κs. profile-shape;
+      order = λ κs (file, (base, (zone, (p, (q, end))))). ofProfile (file .now) base zone p q;
+      shown = λ κs. profileShown;
       Unwritten = λ κs (file, (base, (zone, (p, (q, end))))) x. x .0 .now ≡ file .now;
+      outcome = λ κs (file, (base, (zone, (p, (q, end))))). profile (file .now) base zone p q;
+      shape = λ κs a. profile-shape;
       asks = λ κs a. tt;
       promises = λ κs a r x h. h;
       keeps = λ κs a r x h. h;
@@ -258,10 +243,11 @@ abbrev pub verdict-call : Entry
 verdict-call =
     entered janlishuk-verdict.Asked janlishuk-verdict.Learnt (record {
       promised = λ κs (file, (base, (zone, (p, (q, (a, (b, end))))))) r (after, rest). Judges (file .now) (after .now) base zone p q a b r;
-      outcome = λ κs (file, (base, (zone, (p, (q, (a, (b, end))))))). verdict (file .now) base zone p q a b;
-      order = λ κs (file, (base, (zone, (p, (q, (a, (b, end))))))). ofLink (ofMasts a b) (file .now) base zone p q;
-      shape = λ κs. verdict-shape;
+      order = λ κs (file, (base, (zone, (p, (q, (a, (b, end))))))). ofVerdict (file .now) base zone p q a b;
+      shown = λ κs. verdictShown;
       Unwritten = λ κs (file, (base, (zone, (p, (q, (a, (b, end))))))) x. x .0 .now ≡ file .now;
+      outcome = λ κs (file, (base, (zone, (p, (q, (a, (b, end))))))). verdict (file .now) base zone p q a b;
+      shape = λ κs a. verdict-shape;
       asks = λ κs a. tt;
       promises = λ κs a r x h. h;
       keeps = λ κs a r x h. h;
@@ -273,10 +259,11 @@ abbrev pub plan-call : Entry
 plan-call =
     entered janlishuk-plan.Asked janlishuk-plan.Learnt (record {
       promised = λ κs (file, (base, (zone, (p, (q, (a, (b, end))))))) r (after, rest). Plans (file .now) (after .now) base zone p q a b r;
-      outcome = λ κs (file, (base, (zone, (p, (q, (a, (b, end))))))). plan (file .now) base zone p q a b;
-      order = λ κs (file, (base, (zone, (p, (q, (a, (b, end))))))). ofLink (ofMasts a b) (file .now) base zone p q ++ ofPairs (file .now) base zone p q a b;
-      shape = λ κs. plan-shape;
+      order = λ κs (file, (base, (zone, (p, (q, (a, (b, end))))))). ofPlan (file .now) base zone p q a b;
+      shown = λ κs. planShown;
       Unwritten = λ κs (file, (base, (zone, (p, (q, (a, (b, end))))))) x. x .0 .now ≡ file .now;
+      outcome = λ κs (file, (base, (zone, (p, (q, (a, (b, end))))))). plan (file .now) base zone p q a b;
+      shape = λ κs a. plan-shape;
       asks = λ κs a. tt;
       promises = λ κs a r x h. h;
       keeps = λ κs (file, (base, (zone, (p, (q, (a, (b, end))))))) r x h. (plan-is (file .now) base zone p q a b r (h .0), h .1);
@@ -288,10 +275,11 @@ abbrev pub row-call : Entry
 row-call =
     entered janlishuk-engine-row.Asked janlishuk-engine-row.Learnt (record {
       promised = λ κs (file, (base, (zone, (p, (q, (i, end)))))) r (after, rest). GivesRow (file .now) (after .now) base zone p q i r;
-      outcome = λ κs (file, (base, (zone, (p, (q, (i, end)))))). row (file .now) base zone p q i;
-      order = λ κs (file, (base, (zone, (p, (q, (i, end)))))). ofLink (ofRow p q i) (file .now) base zone p q;
-      shape = λ κs. row-shape;
+      order = λ κs (file, (base, (zone, (p, (q, (i, end)))))). ofEngineRow (file .now) base zone p q i;
+      shown = λ κs. rowShown;
       Unwritten = λ κs (file, (base, (zone, (p, (q, (i, end)))))) x. x .0 .now ≡ file .now;
+      outcome = λ κs (file, (base, (zone, (p, (q, (i, end)))))). row (file .now) base zone p q i;
+      shape = λ κs a. row-shape;
       asks = λ κs a. tt;
       promises = λ κs a r x h. h;
       keeps = λ κs a r x h. h;
@@ -318,7 +306,8 @@ calls =
 pub demand-1 : EachMeets (callsOf calls)
 demand-1 = each-meets calls
 
--- Demand 1 written out for one call, `janlishuk_read`, in the caller's own fields: what stands above says this of every call that is `entered`.
+-- Demand 1 written out for one call, `janlishuk_read`, in the caller's own fields. `demand-1` says the same of each call in `calls`, by its own order and
+-- answer.
 module _ (κs : read-call .call .K) (a : read-call .call .A κs) (r : ReadAnswer) (x : read-call .call .S κs) (told : janlishuk-read.Learnt κs a r x) where
   abbrev file : List ℕ
   file = a .0 .now

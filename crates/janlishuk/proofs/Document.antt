@@ -18,9 +18,9 @@ use Rattle.index.specs.Index.{position, Passes}
 use Rattle.terrain.specs.Record.{entry, taken, Uncovered}
 use Rattle.terrain.specs.declared.record.Taken.{Taken}
 use Rattle.terrain.proofs.Laws.Taken.{taken-own, uncovered-is}
-use Rattle.path.specs.Path.{Q, N, farthest, tallest}
+use Rattle.path.specs.Path.{Q, N, pathOf, sample, farthest, tallest}
 use Rattle.path.proofs.Laws.Path.{farthest-is}
-use Rattle.janlishuk.specs.Order.{Line, FirstOf, placed, ofFile, ofName, ofNorthing, ofPoint, ofEnds, ofMasts, ofRow, ofSamples, ofPairs, ofLink}
+use Rattle.janlishuk.specs.Order.{Line, FirstOf, placed, ofFile, ofName, ofNorthing, ofPoint, ofEnds, ofMasts, ofRow, ofSamples, ofPairs, ofReading, ofTaking, ofProfile, ofVerdict, ofPlan, ofEngineRow}
 
 -- "With x = E / 500, y = N / 500 truncated: Iy = (y - yB) / 31, Ix = (x - 250) / 15, rectangle n = 100 Iy + Ix. In it wx = x - 250 - 15 Ix,
 -- wy = y - yB - 31 Iy, word w = 16 wy + wx + 1. The corners are words w, w+1, w+16, w+17." "fx = E mod 500, fy = N mod 500. Weights: SW (500-fx)(500-fy),
@@ -196,53 +196,62 @@ abbrev fours : ℕ → List ℕ
 fours zero = []
 fours (suc i) = fours i ++ (4 ∷ 5 ∷ 6 ∷ [])
 
--- the sample's number for each of them
+-- the sample's number, three times, for each of k samples
 abbrev thrice : ℕ → List ℕ
 thrice zero = []
 thrice (suc i) = thrice i ++ (i ∷ i ∷ i ∷ [])
 
+-- lines with these numbers at these places
+abbrev Numbered : List Line → List ℕ → List ℕ → Type 0
+Numbered ls ns ps = (numbers ls ≡ ns) × (places ls ≡ ps)
+
 -- "Order: 1, 2, 3, then 4 for the first end, 4 for the second, 7, 8, then samples from 0 upward, each tried for 4, 5, 6 in that order, then 9." "The place is the
 -- sample number for refusals met at samples, else 0."
 module _ (file : List ℕ) (b z : ℕ) (p q : Point) (ma mb i : ℕ) where
-  abbrev before-samples : List Line → List ℕ
-  before-samples eight = numbers (ofFile file b z ++ (ofEnds b z p q ++ eight))
+  -- how many samples the path has
+  abbrev k : ℕ
+  k = N (Q p q) + 1
 
   pub record InDocumentOrder : Type 1 where
-    pub read : numbers (ofFile file b z ++ ofPoint file b z 0 p) ≡ (1 ∷ 2 ∷ 3 ∷ 4 ∷ 5 ∷ 6 ∷ [])
-    pub profile : before-samples [] ≡ (1 ∷ 2 ∷ 3 ∷ 4 ∷ 4 ∷ 7 ∷ [])
-    pub masts : before-samples (ofMasts ma mb) ≡ (1 ∷ 2 ∷ 3 ∷ 4 ∷ 4 ∷ 7 ∷ 8 ∷ [])
-    pub row : before-samples (ofRow p q i) ≡ (1 ∷ 2 ∷ 3 ∷ 4 ∷ 4 ∷ 7 ∷ 8 ∷ [])
-    pub link : (eight : List Line) → ofLink eight file b z p q ≡ (ofFile file b z ++ ((ofEnds b z p q ++ eight) ++ ofSamples file b z p q (N (Q p q) + 1)))
-    pub samples : (k : ℕ) → (numbers (ofSamples file b z p q k) ≡ fours k) × (places (ofSamples file b z p q k) ≡ thrice k)
-    pub before : places (ofFile file b z ++ (ofEnds b z p q ++ ofMasts ma mb)) ≡ (0 ∷ 0 ∷ 0 ∷ 0 ∷ 0 ∷ 0 ∷ 0 ∷ [])
-    pub before-row : places (ofRow p q i) ≡ (0 ∷ [])
-    pub pairs : (numbers (ofPairs file b z p q ma mb) ≡ (9 ∷ [])) × (places (ofPairs file b z p q ma mb) ≡ (0 ∷ []))
-    pub name : (numbers (ofName b z) ≡ (2 ∷ [])) × (places (ofName b z) ≡ (0 ∷ []))
-    pub base : (numbers (ofNorthing i) ≡ (4 ∷ [])) × (places (ofNorthing i) ≡ (0 ∷ []))
+    pub check : Numbered (ofFile file b z) (1 ∷ 2 ∷ 3 ∷ []) (0 ∷ 0 ∷ 0 ∷ [])
+    pub name : Numbered (ofName b z) (2 ∷ []) (0 ∷ [])
+    pub base : Numbered (ofNorthing i) (4 ∷ []) (0 ∷ [])
+    pub read : Numbered (ofReading file b z p) (1 ∷ 2 ∷ 3 ∷ 4 ∷ 5 ∷ 6 ∷ []) (0 ∷ 0 ∷ 0 ∷ 0 ∷ 0 ∷ 0 ∷ [])
+    pub taking : Numbered (ofTaking file b z p) (1 ∷ 2 ∷ 3 ∷ 4 ∷ 5 ∷ []) (0 ∷ 0 ∷ 0 ∷ 0 ∷ 0 ∷ [])
+    pub profile : Numbered (ofProfile file b z p q) ((1 ∷ 2 ∷ 3 ∷ 4 ∷ 4 ∷ 7 ∷ []) ++ fours k) ((0 ∷ 0 ∷ 0 ∷ 0 ∷ 0 ∷ 0 ∷ []) ++ thrice k)
+    pub verdict : Numbered (ofVerdict file b z p q ma mb) ((1 ∷ 2 ∷ 3 ∷ 4 ∷ 4 ∷ 7 ∷ 8 ∷ []) ++ fours k) ((0 ∷ 0 ∷ 0 ∷ 0 ∷ 0 ∷ 0 ∷ 0 ∷ []) ++ thrice k)
+    pub row : Numbered (ofEngineRow file b z p q i) ((1 ∷ 2 ∷ 3 ∷ 4 ∷ 4 ∷ 7 ∷ 8 ∷ []) ++ fours k) ((0 ∷ 0 ∷ 0 ∷ 0 ∷ 0 ∷ 0 ∷ 0 ∷ []) ++ thrice k)
+    pub plan :
+        Numbered (ofPlan file b z p q ma mb) ((1 ∷ 2 ∷ 3 ∷ 4 ∷ 4 ∷ 7 ∷ 8 ∷ []) ++ (fours k ++ (9 ∷ []))) ((0 ∷ 0 ∷ 0 ∷ 0 ∷ 0 ∷ 0 ∷ 0 ∷ []) ++ (thrice k ++ (0 ∷ [])))
 
-  at-samples : (k : ℕ) → (numbers (ofSamples file b z p q k) ≡ fours k) × (places (ofSamples file b z p q k) ≡ thrice k)
+  -- lines one after the other have the numbers and places of both
+  append : (ls ms : List Line) {ns ps os qs : List ℕ} → Numbered ls ns ps → Numbered ms os qs → Numbered (ls ++ ms) (ns ++ os) (ps ++ qs)
+  append ls ms l m = (numbers-append ls ms ∙ λ t. l .0 t ++ m .0 t, places-append ls ms ∙ λ t. l .1 t ++ m .1 t)
+
+  at-samples : (m : ℕ) → Numbered (ofSamples file b z p q m) (fours m) (thrice m)
   unfolding ofSamples
   at-samples zero = (refl, refl)
-  at-samples (suc k) =
-      let before = at-samples k in (
-        numbers-append (ofSamples file b z p q k) _ ∙ ap (λ ns. ns ++ (4 ∷ 5 ∷ 6 ∷ [])) (before .0),
-        places-append (ofSamples file b z p q k) _ ∙ ap (λ ns. ns ++ (k ∷ k ∷ k ∷ [])) (before .1),
-      )
+  at-samples (suc m) = append (ofSamples file b z p q m) (ofPoint file b z m (sample (pathOf p q) m)) (at-samples m) (refl, refl)
+
+  -- the lines of a call on a path, up to those of the samples
+  abbrev before : List Line → List Line
+  before eight = ofFile file b z ++ (ofEnds b z p q ++ eight)
 
   pub in-document-order : InDocumentOrder
   in-document-order =
+      let samples = ofSamples file b z p q k in
       record {
-        read = refl;
-        profile = refl;
-        masts = refl;
-        row = refl;
-        link = λ eight. refl;
-        samples = at-samples;
-        before = refl;
-        before-row = refl;
-        pairs = (refl, refl);
+        check = (refl, refl);
         name = (refl, refl);
         base = (refl, refl);
+        read = (refl, refl);
+        taking = (refl, refl);
+        profile = append (before []) samples (refl, refl) (at-samples k);
+        verdict = append (before (ofMasts ma mb)) samples (refl, refl) (at-samples k);
+        row = append (before (ofRow p q i)) samples (refl, refl) (at-samples k);
+        plan =
+            let pairs = ofPairs file b z p q ma mb in
+            append (before (ofMasts ma mb)) (samples ++ pairs) (refl, refl) (append samples pairs (at-samples k) (refl, refl));
       }
 
 -- "Each number is given exactly when its condition is the first to hold": where the first line's condition holds, its number and place are given

@@ -1,15 +1,32 @@
 -- Demand 1, of any public call: "For any bytes and any numbers, every call ends with an answer or one numbered refusal of document 01, in its order of
 -- checks. Callers need check nothing beforehand. A refusal carries only its number and place, and the terrain bytes are never written." Besides, the
--- contract of a call is its promise, and two results that it allows are the same. proofs/Calls.antt lists the calls and shows this of each. Assumes nothing.
+-- contract of a call gives its promise, and two results that it allows are the same. proofs/Calls.antt lists the calls and shows this of each. Assumes
+-- nothing.
 use mathlib.Core.Path.{_≡_}
 use mathlib.Core.List.{List, [], _∷_}
 use mathlib.Core.Logic.{_↔_}
 use Prim.Native.Nat.{ℕ}
+use lib.IntN.{pos}
+use lib.Ieee.{Float, binary64, ofInt}
 use denote.Ref.{RefT}
+use Rattle.ground.specs.Outcome.{refusalNumber, refusalPlace}
+use Rattle.ground.specs.declared.name.NameAnswer.{NameAnswer}
+use Rattle.ground.specs.declared.table.BaseAnswer.{BaseAnswer}
+use Rattle.terrain.specs.declared.check.CheckAnswer.{CheckAnswer}
+use Rattle.reading.specs.Engine.{engineMeans}
+use Rattle.reading.specs.declared.point.ReadAnswer.{ReadAnswer}
+use Rattle.reading.specs.declared.engine.EnginePoint.{EnginePoint}
+use Rattle.reading.specs.declared.engine.EnginePoint.the-variants as point
+use Rattle.profile.specs.Profile.{zeros}
+use Rattle.profile.specs.declared.ProfileAnswer.{ProfileAnswer}
+use Rattle.profile.specs.declared.row.RowAnswer.{RowAnswer}
+use Rattle.link.specs.declared.clear.VerdictAnswer.{VerdictAnswer}
+use Rattle.link.specs.declared.plan.PlanAnswer.{PlanAnswer}
+use Rattle.janlishuk.specs.declared.point.EngineAnswer.{EngineAnswer}
 use Rattle.janlishuk.specs.Order.{Line, FirstOf, SomeOf}
 
--- How a result shows a refusal: by its number and place, where `bare` is the result that has these and nothing else; or, where it is a part of the file and
--- has no number, by being empty.
+-- How a result shows a refusal: by its number and place, where `bare` is the result that has these and 0 in all else; or, where it is a part of the file
+-- and has no number, by being empty.
 pub data Shown (R : Type 0) : Type 0 where
   byNumber : (refusal place : R → ℕ) → (bare : ℕ → ℕ → R) → Shown R
   byPart : (part : R → RefT (List ℕ)) → Shown R
@@ -30,7 +47,47 @@ abbrev pub Same : {R : Type 0} → Shown R → R → R → Type 0
 Same (byNumber refusal place bare) r s = r ≡ s
 Same (byPart part) r s = (part r .now ≡ part s .now) × ((part r .ptr .0 ≡ part s .ptr .0) × (part r .ptr .1 ≡ part s .ptr .1))
 
--- A public call: its contract as the toolchain reads it to callers, its promise, its order of checks, and how its results show a refusal. `a` are the
+-- 0 as a double
+abbrev nil : Float
+nil = ofInt binary64 (pos 0)
+
+-- How each answer shows a refusal: a struct by its own number and place, and 0 in all other fields.
+abbrev pub checkShown : Shown CheckAnswer
+checkShown = byNumber (λ r. r .refusal) (λ r. r .place) (λ n p. record { refusal = n; place = p; highest = 0 })
+
+abbrev pub nameShown : Shown NameAnswer
+nameShown = byNumber (λ r. r .refusal) (λ r. r .place) (λ n p. record { refusal = n; place = p; name = 0 ∷ 0 ∷ 0 ∷ 0 ∷ [] })
+
+abbrev pub baseShown : Shown BaseAnswer
+baseShown = byNumber (λ r. r .refusal) (λ r. r .place) (λ n p. record { refusal = n; place = p; base = 0 })
+
+abbrev pub readShown : Shown ReadAnswer
+readShown = byNumber (λ r. r .refusal) (λ r. r .place) (λ n p. record { refusal = n; place = p; height = 0; code = 0 })
+
+abbrev pub pointShown : Shown EngineAnswer
+pointShown = byNumber (λ r. r .refusal) (λ r. r .place) (λ n p. record { refusal = n; place = p; kind = 0; code = 0; metres = nil })
+
+abbrev pub profileShown : Shown ProfileAnswer
+profileShown = byNumber (λ r. r .refusal) (λ r. r .place) (λ n p. record { refusal = n; place = p; n = 0; heights = zeros; codes = zeros })
+
+abbrev pub verdictShown : Shown VerdictAnswer
+verdictShown = byNumber (λ r. r .refusal) (λ r. r .place) (λ n p. record { refusal = n; place = p; clear = 0 })
+
+abbrev pub planShown : Shown PlanAnswer
+planShown = byNumber (λ r. r .refusal) (λ r. r .place) (λ n p. record { refusal = n; place = p; first = 0; second = 0 })
+
+abbrev pub rowShown : Shown RowAnswer
+rowShown = byNumber (λ r. r .refusal) (λ r. r .place) (λ n p. record { refusal = n; place = p; row = record { height = nil; share = nil } })
+
+-- the point as an enum, by what its cases mean
+abbrev pub enumShown : Shown EnginePoint
+enumShown = byNumber (λ r. refusalNumber (engineMeans r)) (λ r. refusalPlace (engineMeans r)) (λ n p. point.Refused n)
+
+-- the record, by being empty
+abbrev pub recordShown : Shown (RefT (List ℕ))
+recordShown = byPart (λ r. r)
+
+-- A public call: its contract as the toolchain states it to callers, its promise, its order of checks, and how its results show a refusal. `a` are the
 -- arguments, `r` is the result, `x` the arguments at the end, and κs are lifetimes.
 pub record Call : Type 1 where
   pub K : Type 0
@@ -48,7 +105,7 @@ pub record Call : Type 1 where
   -- the terrain bytes are what they were
   pub Unwritten : (κs : K) → A κs → S κs → Type 0
 
--- demand 1, sentence by sentence
+-- demand 1, sentence by sentence; that every call ends is what the toolchain proves of every function
 pub record Demand1 (c : Call) : Type 0 where
   pub keeps-promise : (κs : c .K) (a : c .A κs) (r : c .R κs) (x : c .S κs) → c .told κs a r x → c .promised κs a r x
   pub answers-or-refuses : (κs : c .K) (a : c .A κs) (r : c .R κs) (x : c .S κs) → c .told κs a r x → Says (c .shown κs) (c .order κs a) r

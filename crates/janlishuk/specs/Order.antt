@@ -106,3 +106,28 @@ ofPairs file b z p q la lb = no 9 ((ma mb : ℕ) → ma ≤ la → mb ≤ lb →
 -- a call on a path: 1, 2, 3, then 4 for the first end, 4 for the second, 7, then 8 where it has a place in the call, then the samples
 abbrev pub ofLink : List Line → List ℕ → ℕ → ℕ → Point → Point → List Line
 ofLink eight file b z p q = ofFile file b z ++ ((ofEnds b z p q ++ eight) ++ ofSamples file b z p q (N (Q p q) + 1))
+
+-- The order of checks of each call. That of `janlishuk_check`, 1, 2, 3, is `ofFile`; that of `janlishuk_name`, 2, `ofName`; that of `janlishuk_base`, 4,
+-- `ofNorthing`. `janlishuk_read`, `engine_point` and `janlishuk_engine_point`: 1 to 6
+abbrev pub ofReading : List ℕ → ℕ → ℕ → Point → List Line
+ofReading file b z p = ofFile file b z ++ ofPoint file b z 0 p
+
+-- `record`: 1 to 5
+abbrev pub ofTaking : List ℕ → ℕ → ℕ → Point → List Line
+ofTaking file b z p = ofFile file b z ++ ofRecord file b z 0 p
+
+-- `janlishuk_profile`: 1 to 7
+abbrev pub ofProfile : List ℕ → ℕ → ℕ → Point → Point → List Line
+ofProfile file b z p q = ofLink [] file b z p q
+
+-- `janlishuk_verdict`: 1 to 8
+abbrev pub ofVerdict : List ℕ → ℕ → ℕ → Point → Point → ℕ → ℕ → List Line
+ofVerdict file b z p q ma mb = ofLink (ofMasts ma mb) file b z p q
+
+-- `janlishuk_plan`: 1 to 9
+abbrev pub ofPlan : List ℕ → ℕ → ℕ → Point → Point → ℕ → ℕ → List Line
+ofPlan file b z p q la lb = ofLink (ofMasts la lb) file b z p q ++ ofPairs file b z p q la lb
+
+-- `janlishuk_engine_row`: 1 to 8
+abbrev pub ofEngineRow : List ℕ → ℕ → ℕ → Point → Point → ℕ → List Line
+ofEngineRow file b z p q i = ofLink (ofRow p q i) file b z p q

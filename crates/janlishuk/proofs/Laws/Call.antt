@@ -5,39 +5,42 @@ use mathlib.Core.List.{List, [], _∷_}
 use Prim.Native.Nat.{ℕ}
 use Rattle.ground.specs.Outcome.{Outcome, given, refused, refusalNumber, refusalPlace}
 use Rattle.janlishuk.specs.Order.{Line}
-use Rattle.janlishuk.specs.Call.{Shown, byNumber, Bare, Call, Demand1, EachMeets}
+use Rattle.janlishuk.specs.Call.{Shown, byNumber, Says, Bare, Same, Call, Demand1, EachMeets}
 use Rattle.janlishuk.proofs.Laws.Line.{InOrder, first-of}
 
--- how an answer with a number and a place shows an outcome
-pub record Shape (G R : Type 0) : Type 1 where
+-- what it is to answer an outcome, for a call whose results show a refusal in this way
+pub record Shape (G R : Type 0) (shown : Shown R) : Type 1 where
   pub Means : Outcome G → R → Type 0
-  pub refusal : R → ℕ
-  pub place : R → ℕ
-  pub bare : ℕ → ℕ → R
-  pub is-refusal : (o : Outcome G) (r : R) → Means o r → refusal r ≡ refusalNumber o
-  pub is-place : (o : Outcome G) (r : R) → Means o r → place r ≡ refusalPlace o
-  pub is-bare : (number at : ℕ) (r : R) → Means (refused number at) r → r ≡ bare number at
-  pub once : (o : Outcome G) (r s : R) → Means o r → Means o s → r ≡ s
+  pub says : (o : Outcome G) (r : R) → Means o r → {ls : List Line} → InOrder ls o → Says shown ls r
+  pub bare : (o : Outcome G) (r : R) → Means o r → Bare shown r
+  pub once : (o : Outcome G) (r s : R) → Means o r → Means o s → Same shown r s
 
--- such an answer shows a refusal by its number
-abbrev shownBy : {G R : Type 0} → Shape G R → Shown R
-shownBy s = byNumber (s .refusal) (s .place) (s .bare)
+module _ {G R : Type 0} {refusal place : R → ℕ} {bare : ℕ → ℕ → R} where
+  -- An answer shows a refusal by its number if its meaning gives it the outcome's number and place, and beside a refusal nothing else.
+  module _ (Means : Outcome G → R → Type 0)
+      (numbers : (o : Outcome G) (r : R) → Means o r → (refusal r ≡ refusalNumber o) × (place r ≡ refusalPlace o))
+      (rest : (number at : ℕ) (r : R) → Means (refused number at) r → r ≡ bare number at) where
+    pub carries : (o : Outcome G) (r : R) → Means o r → Bare (byNumber refusal place bare) r
+    carries (given v) r h n = absurd (n (numbers (given v) r h .0))
+    carries (refused number at) r h n =
+        let of = numbers (refused number at) r h in
+        rw (of .0, of .1) (rest number at r h)
 
--- a struct shows an outcome if it is the answer to it
-abbrev pub as-struct : {G R : Type 0} (answer : Outcome G → R) (refusal place : R → ℕ) (bare : ℕ → ℕ → R)
-    → ((o : Outcome G) → (refusal (answer o) ≡ refusalNumber o) × (place (answer o) ≡ refusalPlace o))
-    → ((number at : ℕ) → answer (refused number at) ≡ bare number at) → Shape G R
-as-struct answer refusal place bare numbers rest =
-    record {
-      Means = λ o r. r ≡ answer o;
-      refusal = refusal;
-      place = place;
-      bare = bare;
-      is-refusal = λ o r e. rw e (numbers o .0);
-      is-place = λ o r e. rw e (numbers o .1);
-      is-bare = λ number at r e. e ∙ rest number at;
-      once = λ o r s e f. e ∙ sym f;
-    }
+    abbrev pub numbered : ((o : Outcome G) (r s : R) → Means o r → Means o s → r ≡ s) → Shape G R (byNumber refusal place bare)
+    numbered once =
+        record {
+          Means = Means;
+          says = λ o r h i. rw (numbers o r h .0, numbers o r h .1) (first-of i);
+          bare = carries;
+          once = once;
+        }
+
+  -- a struct means an outcome if it is the answer to it
+  abbrev pub as-struct : (answer : Outcome G → R)
+      → ((o : Outcome G) → (refusal (answer o) ≡ refusalNumber o) × (place (answer o) ≡ refusalPlace o))
+      → ((number at : ℕ) → answer (refused number at) ≡ bare number at) → Shape G R (byNumber refusal place bare)
+  as-struct answer numbers rest =
+      numbered (λ o r. r ≡ answer o) (λ o r e. rw e (numbers o)) (λ number at r e. e ∙ rest number at) (λ o r s e f. e ∙ sym f)
 
 -- a call, and that it meets demand 1
 pub record Entry : Type 1 where
@@ -54,26 +57,26 @@ pub each-meets : (es : List Entry) → EachMeets (callsOf es)
 each-meets [] = tt
 each-meets (e ∷ es) = (e .meets, each-meets es)
 
--- what shows a refusal carries only its number and place
-pub carries : {G R : Type 0} (s : Shape G R) (o : Outcome G) (r : R) → s .Means o r → Bare (shownBy s) r
-carries s (given v) r h n = absurd (n (s .is-refusal (given v) r h))
-carries s (refused number at) r h n = rw (s .is-refusal (refused number at) r h, s .is-place (refused number at) r h) (s .is-bare number at r h)
-
 module _ {K : Type 0} {A R S : K → Type 0} (asked : (κs : K) → A κs → Type 0) (told : (κs : K) → A κs → R κs → S κs → Type 0) where
-  -- the entry of a call whose answer has a number and a place
+  -- what is entered of a call with this contract
   pub record Answers (G : Type 0) : Type 1 where
-    -- its promise, what it comes to, its numbers in their order, how its answer shows that, and what stays unwritten
+    -- what is said of it: its promise, its numbers in their order, how its results show a refusal, and what stays unwritten
     pub promised : (κs : K) → A κs → R κs → S κs → Type 0
-    pub outcome : (κs : K) → A κs → Outcome G
     pub order : (κs : K) → A κs → List Line
-    pub shape : (κs : K) → Shape G (R κs)
+    pub shown : (κs : K) → Shown (R κs)
     pub Unwritten : (κs : K) → A κs → S κs → Type 0
-    -- its contract asks nothing and tells its promise, for its own arguments in their order; its promise is that its answer shows what it comes to
+    -- why: what it comes to, and what it is to answer that; its contract asks nothing and tells its promise, its promise is that its result answers
+    -- what it comes to, and that is refused in its order
+    pub outcome : (κs : K) → A κs → Outcome G
+    pub shape : (κs : K) → A κs → Shape G (R κs) (shown κs)
     pub asks : (κs : K) (a : A κs) → asked κs a
     pub promises : (κs : K) (a : A κs) (r : R κs) (x : S κs) → told κs a r x → promised κs a r x
-    pub keeps : (κs : K) (a : A κs) (r : R κs) (x : S κs) → promised κs a r x → shape κs .Means (outcome κs a) r × Unwritten κs a x
-    -- it refuses in that order
+    pub keeps : (κs : K) (a : A κs) (r : R κs) (x : S κs) → promised κs a r x → shape κs a .Means (outcome κs a) r × Unwritten κs a x
     pub ordered : (κs : K) (a : A κs) → InOrder (order κs a) (outcome κs a)
+
+  -- what its result answers
+  pub answers : {G : Type 0} (e : Answers G) (κs : K) (a : A κs) (r : R κs) (x : S κs) → told κs a r x → e .shape κs a .Means (e .outcome κs a) r
+  answers e κs a r x h = e .keeps κs a r x (e .promises κs a r x h) .0
 
   -- demand 1 follows
   abbrev pub entered : {G : Type 0} → Answers G → Entry
@@ -88,20 +91,15 @@ module _ {K : Type 0} {A R S : K → Type 0} (asked : (κs : K) → A κs → Ty
           told = told;
           promised = e .promised;
           order = e .order;
-          shown = λ κs. shownBy (e .shape κs);
+          shown = e .shown;
           Unwritten = e .Unwritten;
         };
         meets = record {
           keeps-promise = e .promises;
-          answers-or-refuses = λ κs a r x h.
-              let s = e .keeps κs a r x (e .promises κs a r x h) .0 in
-              rw (e .shape κs .is-refusal _ r s, e .shape κs .is-place _ r s) (first-of (e .ordered κs a));
+          answers-or-refuses = λ κs a r x h. e .shape κs a .says _ r (answers e κs a r x h) (e .ordered κs a);
           asks-nothing = e .asks;
-          carries-only = λ κs a r x h. carries (e .shape κs) (e .outcome κs a) r (e .keeps κs a r x (e .promises κs a r x h) .0);
+          carries-only = λ κs a r x h. e .shape κs a .bare _ r (answers e κs a r x h);
           never-writes = λ κs a r x h. e .keeps κs a r x (e .promises κs a r x h) .1;
-          once = λ κs a r s x y h k.
-              let first = e .keeps κs a r x (e .promises κs a r x h) .0 in
-              let second = e .keeps κs a s y (e .promises κs a s y k) .0 in
-              e .shape κs .once (e .outcome κs a) r s first second;
+          once = λ κs a r s x y h k. e .shape κs a .once _ r s (answers e κs a r x h) (answers e κs a s y k);
         };
       }

@@ -1,5 +1,5 @@
 -- The record that a point is read from: its rectangle is a covered one of the file, and the record reaches as far as the point's weighing corners. What
--- the crates above know of `taken` is said here, and only here is it taken apart. From the laws of a checked file and of places. Assumes nothing.
+-- the crates above know of `taken` is said here. From the laws of a checked file and of places. Assumes nothing.
 use mathlib.Core.Path.{_≡_, refl, ap}
 use mathlib.Core.Bool.{Bool, true, false, not}
 use mathlib.Core.List.{List}
