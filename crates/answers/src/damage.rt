@@ -14,8 +14,8 @@ fn check(bytes: &[u8], base: u32, zone: u32) {
     );
 }
 
-// Prints the check of the file with this base and zone.
-fn whole(file: &[u8; LENGTH], base: u32, zone: u32) {
+// Prints the check of all bytes of the file with this base and zone.
+fn check_all(file: &[u8; LENGTH], base: u32, zone: u32) {
     check(file, base, zone);
 }
 
@@ -39,16 +39,16 @@ fn damaged(file: [u8; LENGTH], position: u32, number: u32) {
     let mut other = file;
     file::put(&mut other, position, number);
     say::line(b"position", &[position, number]);
-    whole(&other, BASE, ZONE);
+    check_all(&other, BASE, ZONE);
 }
 
 // Prints the check of the file: whole; cut; M above the records, below an entry and below 6; an entry
 // that stands twice, one of 6, one where no rectangle is; and an entry taken out.
 pub(crate) fn checks(file: [u8; LENGTH]) {
-    whole(&file, BASE, ZONE);
-    whole(&file, 44, ZONE);
-    whole(&file, 42, ZONE);
-    whole(&file, BASE, 61);
+    check_all(&file, BASE, ZONE);
+    check_all(&file, 44, ZONE);
+    check_all(&file, 42, ZONE);
+    check_all(&file, BASE, 61);
     cut(&file, 0);
     cut(&file, 7168);
     cut(&file, 9215);
