@@ -5,7 +5,7 @@ mod file;
 mod height;
 mod name;
 mod place;
-mod plan;
+mod plans;
 mod point;
 mod samples;
 mod say;
@@ -23,6 +23,6 @@ fn main() {
     height::p8();
     samples::p9();
     verdict::p10();
-    plan::p11();
-    plan::p12();
+    plans::p11();
+    plans::p12();
 }

@@ -33,10 +33,10 @@ use Rattle.profile.specs.declared.row.Row.{Row}
 use Rattle.profile.specs.declared.row.RowAnswer.{RowAnswer}
 use Rattle.masts.specs.declared.Masts.{Masts}
 use Rattle.link.specs.Clear.{verdict, verdictAnswer}
-use Rattle.link.specs.Plan.{plan, planAnswer}
+use Rattle.plan.specs.Plan.{plan, planAnswer}
 use Rattle.link.specs.declared.clear.VerdictAnswer.{VerdictAnswer}
-use Rattle.link.specs.declared.plan.PlanAnswer.{PlanAnswer}
-use Rattle.link.proofs.Laws.Plan.{plan-is}
+use Rattle.plan.specs.declared.PlanAnswer.{PlanAnswer}
+use Rattle.plan.proofs.Laws.Plan.{plan-is}
 use Rattle.janlishuk.specs.Engine.{engineAnswer}
 use Rattle.janlishuk.specs.Order.{FirstOf, ofFile, ofName, ofNorthing, ofPoint, ofReading, ofTaking, ofProfile, ofVerdict, ofPlan, ofEngineRow}
 use Rattle.janlishuk.specs.Promise.{Checks, Names, FindsBase, Reads, HandsBack, Tells, Shows, Profiles, Judges, Plans, GivesRow}

@@ -29,8 +29,8 @@ use Rattle.profile.proofs.Laws.Link as profile-law
 use Rattle.profile.proofs.Laws.Link.{profile-given, profile-at}
 use Rattle.link.specs.Clear.{clear, verdict, verdictAnswer}
 use Rattle.link.specs.declared.clear.VerdictAnswer.{VerdictAnswer}
-use Rattle.link.specs.declared.plan.PlanAnswer.{PlanAnswer}
-use Rattle.link.proofs.Laws.Plan.{plan-is}
+use Rattle.plan.specs.declared.PlanAnswer.{PlanAnswer}
+use Rattle.plan.proofs.Laws.Plan.{plan-is}
 use Rattle.link.proofs.Laws.Rounding.{exactly-clear}
 use Rattle.link.proofs.Laws.Demands.{clear-exactly, verdict-given}
 use Rattle.janlishuk.specs.Order.{OnGround, placed}

@@ -11,8 +11,8 @@ use Rattle.profile.specs.Profile.{Link}
 use Rattle.profile.specs.declared.ProfileAnswer.{ProfileAnswer}
 use Rattle.masts.specs.Plan.{Pair, NoPair}
 use Rattle.link.specs.Clear.{clear, verdict, verdictAnswer}
-use Rattle.link.specs.declared.plan.PlanAnswer.{PlanAnswer}
-use Rattle.link.proofs.Laws.Demands.{Meets, demand-3}
+use Rattle.plan.specs.declared.PlanAnswer.{PlanAnswer}
+use Rattle.plan.proofs.Laws.Demands.{Meets, demand-3}
 use Rattle.janlishuk.specs.Promise.{Profiles, Plans}
 use Rattle.janlishuk.specs.Demand.{ClearPair}
 use Rattle.janlishuk.proofs.Demand2.{number-is, profiled, link, judged, clears}

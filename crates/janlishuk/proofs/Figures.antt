@@ -6,6 +6,7 @@ use Rattle.terrain.proofs.Figures as terrain
 use Rattle.reading.proofs.Figures as reading
 use Rattle.path.proofs.Figures as path
 use Rattle.link.proofs.Figures as link
+use Rattle.plan.proofs.Figures as plan
 use Rattle.janlishuk.specs.Figure.{figures}
 
 pub every-figure-holds : AllHold figures
@@ -15,6 +16,6 @@ every-figure-holds =
       g .0,
       (
         index.figures .0,
-        (g .1 .0, (g .1 .1 .0, (g .1 .1 .1 .0, (terrain.figures .0, (r .0, (r .1 .0, (path.figures .0, link.figures))))))),
+        (g .1 .0, (g .1 .1 .0, (g .1 .1 .1 .0, (terrain.figures .0, (r .0, (r .1 .0, (path.figures .0, (link.figures .0, plan.figures)))))))),
       ),
     )

@@ -21,7 +21,7 @@ use Rattle.profile.specs.Profile.{zeros}
 use Rattle.profile.specs.declared.ProfileAnswer.{ProfileAnswer}
 use Rattle.profile.specs.declared.row.RowAnswer.{RowAnswer}
 use Rattle.link.specs.declared.clear.VerdictAnswer.{VerdictAnswer}
-use Rattle.link.specs.declared.plan.PlanAnswer.{PlanAnswer}
+use Rattle.plan.specs.declared.PlanAnswer.{PlanAnswer}
 use Rattle.janlishuk.specs.declared.point.EngineAnswer.{EngineAnswer}
 use Rattle.janlishuk.specs.Order.{Line, FirstOf, SomeOf}
 

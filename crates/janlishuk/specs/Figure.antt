@@ -5,7 +5,8 @@ use Rattle.index.specs.Figure.{P2}
 use Rattle.terrain.specs.Figure.{P6}
 use Rattle.reading.specs.Figure.{P7, P8}
 use Rattle.path.specs.Figure.{P9}
-use Rattle.link.specs.Figure.{P10, P11, P12}
+use Rattle.link.specs.Figure.{P10}
+use Rattle.plan.specs.Figure.{P11, P12}
 
 -- document 01's twelve figures
 abbrev pub figures : List Figure

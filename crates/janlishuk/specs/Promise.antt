@@ -23,9 +23,9 @@ use Rattle.profile.specs.Row.{row, rowAnswer}
 use Rattle.profile.specs.declared.ProfileAnswer.{ProfileAnswer}
 use Rattle.profile.specs.declared.row.RowAnswer.{RowAnswer}
 use Rattle.link.specs.Clear.{verdict, verdictAnswer}
-use Rattle.link.specs.Plan.{Plan}
+use Rattle.plan.specs.Plan.{Plan}
 use Rattle.link.specs.declared.clear.VerdictAnswer.{VerdictAnswer}
-use Rattle.link.specs.declared.plan.PlanAnswer.{PlanAnswer}
+use Rattle.plan.specs.declared.PlanAnswer.{PlanAnswer}
 use Rattle.janlishuk.specs.Engine.{engineAnswer}
 use Rattle.janlishuk.specs.declared.point.EngineAnswer.{EngineAnswer}
 

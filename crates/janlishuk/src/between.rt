@@ -3,7 +3,7 @@
 ghost use Rattle.janlishuk.specs.Promise.{Profiles, Judges, Plans, GivesRow};
 use ground::point::Point;
 use link::clear::VerdictAnswer;
-use link::plan::PlanAnswer;
+use plan::PlanAnswer;
 use profile::ProfileAnswer;
 use profile::row::RowAnswer;
 
@@ -51,7 +51,7 @@ pub extern "C" fn janlishuk_plan(
 ) -> PlanAnswer
     ensures { λ r. ⌜ Plans (now (file .entry)) (now (file .exit)) base zone first second la lb r ⌝ }
 {
-    link::plan::plan(file, base, zone, first, second, la, lb)
+    plan::plan(file, base, zone, first, second, la, lb)
 }
 
 // The height in metres and the share of the way of sample i of the path; or refusal 1 to 8.

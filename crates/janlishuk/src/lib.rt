@@ -12,7 +12,7 @@ pub use ground::name::NameAnswer;
 pub use ground::point::Point;
 pub use ground::table::BaseAnswer;
 pub use link::clear::VerdictAnswer;
-pub use link::plan::PlanAnswer;
+pub use plan::PlanAnswer;
 pub use point::EngineAnswer;
 pub use point::engine_point;
 pub use point::janlishuk_engine_point;

@@ -1,3 +1,3 @@
--- The laws of a link, and the checked figures P10 to P12.
+-- The laws of a link, and the checked figure P10.
 pub mod Laws
 pub mod Figures

@@ -35,7 +35,7 @@ pub struct VerdictAnswer {
 }
 
 // What was read at sample i: its exact height and its surface code.
-pub(crate) fn sample_of(heights: &[u32; ROOM], codes: &[u8; ROOM], i: u32) -> Reading
+pub fn sample_of(heights: &[u32; ROOM], codes: &[u8; ROOM], i: u32) -> Reading
     requires { ⌜ (i ≤ 200) × (getD (now codes) i 0 ≤ 7) ⌝ }
     ensures { λ r. ⌜ r ≡ record { height = getD (now (heights .entry)) i 0; code = getD (now (codes .entry)) i 0 } ⌝ }
 {
@@ -46,7 +46,7 @@ pub(crate) fn sample_of(heights: &[u32; ROOM], codes: &[u8; ROOM], i: u32) -> Re
 }
 
 // A or B, in millimetres: the end's height rounded down, and its mast.
-pub(crate) fn raised(end: Reading, mast: u32) -> u32
+pub fn raised(end: Reading, mast: u32) -> u32
     requires { ⌜ mast ≤ tallest ⌝ }
     ensures { λ r. ⌜ r ≡ raised end mast ⌝ }
 {
@@ -71,7 +71,7 @@ fn curve(path: Path, i: u32) -> u32
 }
 
 // What sample i needs: N (T + G).
-pub(crate) fn need(path: Path, heights: &[u32; ROOM], codes: &[u8; ROOM], i: u32) -> u32
+pub fn need(path: Path, heights: &[u32; ROOM], codes: &[u8; ROOM], i: u32) -> u32
     requires { ⌜ SoundLink (linkOf path (now heights) (now codes)) × (i ≤ path .n) ⌝ }
     ensures { λ r. ⌜ r ≡ need (linkOf path (now (heights .entry)) (now (codes .entry))) i ⌝ }
 {

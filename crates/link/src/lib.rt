@@ -1,3 +1,2 @@
-// The link between two points: whether two masts see each other, and the lowest two that do.
+// The link between two points: what each sample needs, and whether two masts see each other.
 pub mod clear;
-pub mod plan;

@@ -42,7 +42,7 @@ use Rattle.profile.proofs.Laws.Link.{with, link-is, same-link}
 use Rattle.masts.specs.Plan.{planOf}
 use Rattle.masts.proofs.Laws.Plan.{planned}
 use Rattle.link.specs.Clear.{clear, verdict}
-use Rattle.link.specs.Plan.{plan}
+use Rattle.plan.specs.Plan.{plan}
 use Rattle.janlishuk.specs.Order.{Line, IsNamed, OnGround, placed, ofFile, ofName, ofNorthing, ofRecord, ofPoint, ofEnds, ofMasts, ofRow, ofSamples, ofPairs, ofLink}
 use Rattle.janlishuk.proofs.Laws.Line.{InOrder, gave, tested, after, giving, met-at}
 

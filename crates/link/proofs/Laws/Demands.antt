@@ -1,22 +1,18 @@
--- Demand 2, last sentence, of the clear verdict, and demand 3: what verdict and plan say of a path whose profile is given, in document 01's letters and in
--- the caller's own fields. From the laws of the profile's link, of the clear test and of the plan. Assumes nothing.
-use mathlib.Core.Path.{_≡_, refl, _∙_, subst}
-use mathlib.Core.Logic.{_↔_, _⊎_, inl, inr}
+-- Demand 2, last sentence, of the clear verdict: what it says of a path whose profile is given, in document 01's letters. From the laws of the profile's link
+-- and of the clear test. Assumes nothing.
+use mathlib.Core.Path.{_≡_}
+use mathlib.Core.Logic.{_↔_}
 use mathlib.Core.Bool.{true}
 use mathlib.Core.List.{List}
 use Prim.Native.Nat.{ℕ, _+_, _-_, _*_, _/_, _≤_, _<_}
 use native.Mathlib.Omega.{arith}
 use lib.ListN.{getD}
-use Rattle.ground.specs.Outcome.{Outcome, given, refused}
+use Rattle.ground.specs.Outcome.{given}
 use Rattle.ground.specs.declared.point.Point.{Point}
 use Rattle.path.specs.Path.{Q, N, pathOf, askMasts}
-use Rattle.profile.specs.Profile.{Profile, Link, linked, profile}
+use Rattle.profile.specs.Profile.{Profile, Link, profile}
 use Rattle.masts.specs.Clear.{roundedUp}
-use Rattle.masts.specs.Plan.{Best, NoPair, Demand3}
 use Rattle.link.specs.Clear.{T, G, need, clear, verdict}
-use Rattle.link.specs.Plan.{planAnswer, Plan, Allowed}
-use Rattle.masts.specs.declared.Masts.{Masts}
-use Rattle.link.specs.declared.plan.PlanAnswer.{PlanAnswer}
 use Rattle.masts.proofs.Laws.Clear.{clear-is, taller}
 use Rattle.profile.proofs.Laws.Link.{WithinAsked, link-given}
 
@@ -47,29 +43,10 @@ module _ (file : List ℕ) (base zone : ℕ) (p q : Point) (pr : Profile) (e : p
   link = record { path = pathOf p q; profile = pr }
 
   -- masts of 0 to 100 m are within what may be asked
-  masts-within : {a b : ℕ} → a ≤ 100 → b ≤ 100 → WithinAsked (N (Q p q)) (askMasts p q a b)
+  pub masts-within : {a b : ℕ} → a ≤ 100 → b ≤ 100 → WithinAsked (N (Q p q)) (askMasts p q a b)
   masts-within ha hb = record { a = ha; b = hb; i = omega arith }
 
   -- the verdict on two masts of 0 to 100 m is given, and is the clear test
   pub verdict-given : {a b : ℕ} → a ≤ 100 → b ≤ 100 → verdict file base zone p q a b ≡ given (clear link a b)
   unfolding verdict
   verdict-given {a} {b} ha hb = simp (link-given file base zone (askMasts p q a b) pr e (masts-within ha hb))
-
-  -- the answer r has the best pair beside refusal 0
-  pub record Meets (la lb : ℕ) (r : PlanAnswer) : Type 0 where
-    pub refusal : (r .refusal ≡ 0) × (r .place ≡ 0)
-    pub best : Best (clear link) la lb (record { first = r .first; second = r .second })
-
-  -- whatever the plan answers for two limits of 0 to 100 m is what demand 3 allows of that test: the best pair, or refusal 9 alone
-  pub demand-3 : {la lb : ℕ} → la ≤ 100 → lb ≤ 100 → (r : PlanAnswer) → Plan (linked file base zone (askMasts p q la lb)) la lb r
-      → Meets la lb r ⊎ ((r ≡ record { refusal = 9; place = 0; first = 0; second = 0 }) × NoPair (clear link) la lb)
-  demand-3 {la} {lb} ha hb r s = go (allowed .outcome) (allowed .meets) (allowed .answers)
-    where
-      allowed : Allowed link la lb r
-      allowed = subst (λ (o : Outcome Link). Plan o la lb r) (link-given file base zone (askMasts p q la lb) pr e (masts-within ha hb)) s
-
-      go : (o : Outcome Masts) → Demand3 (clear link) la lb o → r ≡ planAnswer o
-          → Meets la lb r ⊎ ((r ≡ record { refusal = 9; place = 0; first = 0; second = 0 }) × NoPair (clear link) la lb)
-      go (given m) d i =
-          inl (rw i (record { refusal = (refl, refl); best = d }))
-      go (refused number place) d i = inr (i ∙ rw (d .0 .0, d .0 .1), d .1)

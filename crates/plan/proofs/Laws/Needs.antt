@@ -15,11 +15,11 @@ use Rattle.profile.specs.Profile.{Link, sampleOf}
 use Rattle.masts.specs.Clear.{clearBy}
 use Rattle.masts.specs.Plan.{Demand3}
 use Rattle.masts.specs.Inside.{Sides}
 use Rattle.link.specs.Clear.{raised, need, clear}
 use Rattle.masts.specs.declared.Masts.{Masts}
 use Rattle.profile.specs.Inside.{SoundLink}
-use Rattle.link.specs.Inside.{Needed}
+use Rattle.plan.specs.Inside.{Needed}
 use Rattle.link.proofs.Laws.Bounds.{need-most}
 use Rattle.masts.proofs.Laws.Clear.{needs-agree}
 
 -- no need yet

@@ -1,4 +1,4 @@
-// The mast plan of a path with its profile.
+// The mast plan of a link: the lowest two masts that see each other.
 ghost use mathlib.Core.Path.{_≡_};
 ghost use Prim.Native.Nat.{_≤_};
 ghost use lib.ListN.{length};
@@ -6,11 +6,11 @@ ghost use Rattle.path.specs.Path.{askMasts, tallest};
 ghost use Rattle.profile.specs.Profile.{linkOf, linked};
 ghost use Rattle.profile.specs.Inside.{SoundLink};
 ghost use Rattle.masts.specs.Plan.{Demand3, plannedMeans};
 ghost use Rattle.link.specs.Clear.{need, clear};
-ghost use Rattle.link.specs.Plan.{planAnswer, Plan};
-ghost use Rattle.link.specs.Inside.{Needed};
-use crate::clear;
+ghost use Rattle.plan.specs.Plan.{planAnswer, Plan};
+ghost use Rattle.plan.specs.Inside.{Needed};
 use ground::point::Point;
+use link::clear;
 use masts::Planned;
 use path::Asked;
 use path::Path;

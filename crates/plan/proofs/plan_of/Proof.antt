@@ -4,11 +4,11 @@ use mathlib.Core.Path.{_≡_}
 use native.Mathlib.Omega.{arith}
 use borrow.Author.Needs.{needs}
 use Rattle.profile.specs.Profile.{Link, linkOf, sampleOf}
 use Rattle.link.specs.Clear.{raised}
 use Rattle.masts.specs.Plan.{plannedMeans}
-use Rattle.link.proofs.Laws.Needs.{sides, demand-of-search}
-use Rattle.link.proofs.plan.plan_of.Statement.{statement}
-use Rattle.link.proofs.plan.plan_of.Tie as tie
+use Rattle.plan.proofs.Laws.Needs.{sides, demand-of-search}
+use Rattle.plan.proofs.plan_of.Statement.{statement}
+use Rattle.plan.proofs.plan_of.Tie as tie
 
 -- what is asked about
 abbrev link : tie.Start → Link

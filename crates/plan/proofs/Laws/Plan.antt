@@ -8,9 +8,9 @@ use Rattle.path.specs.Path.{askMasts}
 use Rattle.profile.specs.Profile.{Link, linked}
 use Rattle.masts.specs.Plan.{planOf}
 use Rattle.masts.proofs.Laws.Plan.{demand-once, plan-of-meets}
 use Rattle.link.specs.Clear.{clear}
-use Rattle.link.specs.Plan.{planAnswer, Plan, plan}
-use Rattle.link.specs.declared.plan.PlanAnswer.{PlanAnswer}
+use Rattle.plan.specs.Plan.{planAnswer, Plan, plan}
+use Rattle.plan.specs.declared.PlanAnswer.{PlanAnswer}
 
 -- what the plan answers for a link, or for the refusal before it, is the executable plan
 answer-is : (o : Outcome Link) (la lb : ℕ) (r : PlanAnswer) → Plan o la lb r → r ≡ planAnswer (o andThen λ l. planOf (clear l) la lb)

@@ -1,7 +1,7 @@
 -- `answer` meets its contract, case by case. Assumes nothing.
 use borrow.Author.Needs.{needs}
-use Rattle.link.proofs.plan.answer.Statement.{statement}
-use Rattle.link.proofs.plan.answer.Tie as tie
+use Rattle.plan.proofs.answer.Statement.{statement}
+use Rattle.plan.proofs.answer.Tie as tie
 
 returns : tie.Need-returns
 returns c = rw (c .before .planned .given .1)

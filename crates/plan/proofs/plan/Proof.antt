@@ -4,8 +4,8 @@ use borrow.Author.Needs.{needs}
 use Rattle.profile.specs.Profile.{zeros}
 use Rattle.masts.specs.Plan.{plannedMeans}
 use Rattle.profile.proofs.Laws.Link.{sampled-is}
-use Rattle.link.proofs.plan.plan.Statement.{statement}
-use Rattle.link.proofs.plan.plan.Tie as tie
+use Rattle.plan.proofs.plan.Statement.{statement}
+use Rattle.plan.proofs.plan.Tie as tie
 
 read-samples-requires : tie.Need-read-samples-requires
 unfolding zeros

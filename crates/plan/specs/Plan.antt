@@ -8,8 +8,8 @@ use Rattle.path.specs.Path.{askMasts}
 use Rattle.profile.specs.Profile.{Link, linked}
 use Rattle.masts.specs.Plan.{Demand3, planOf}
 use Rattle.masts.specs.declared.Masts.{Masts}
 use Rattle.link.specs.Clear.{clear}
-use Rattle.link.specs.declared.plan.PlanAnswer.{PlanAnswer}
+use Rattle.plan.specs.declared.PlanAnswer.{PlanAnswer}
 
 -- the answer of `janlishuk_plan` as the caller gets it
 abbrev pub planAnswer : Outcome Masts → PlanAnswer

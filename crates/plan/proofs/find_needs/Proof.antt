@@ -5,11 +5,11 @@ use Prim.Native.Nat.{_-_, _≤_}
 use native.Mathlib.Omega.{arith}
 use borrow.Author.Needs.{needs}
 use Rattle.profile.specs.Profile.{linkOf}
 use Rattle.link.specs.Clear.{need}
-use Rattle.link.specs.Inside.{Needed}
-use Rattle.link.proofs.Laws.Needs.{none-needed, one-needed}
-use Rattle.link.proofs.plan.find_needs.Statement.{statement}
-use Rattle.link.proofs.plan.find_needs.Tie as tie
+use Rattle.plan.specs.Inside.{Needed}
+use Rattle.plan.proofs.Laws.Needs.{none-needed, one-needed}
+use Rattle.plan.proofs.find_needs.Statement.{statement}
+use Rattle.plan.proofs.find_needs.Tie as tie
 
 abbrev Inv-loop : tie.InvT-loop
 Inv-loop path heights codes needs₀ i₀ i-end needs i = (i ≤ path .n) × Needed (need (linkOf path heights codes)) i needs
