@@ -44,7 +44,7 @@ use Rattle.janlishuk.specs.Call.{EachMeets, checkShown, nameShown, baseS
 use Rattle.janlishuk.specs.declared.point.EngineAnswer.{EngineAnswer}
 use Rattle.janlishuk.proofs.Laws.Line.{giving, some-of}
 use Rattle.janlishuk.proofs.Laws.Order.{file-order, name-order, base-order, taking-order, reading-order, profile-order, verdict-order, plan-order, row-order}
-use Rattle.janlishuk.proofs.Laws.Call.{Shape, numbered, as-struct, Entry, callsOf, each-meets, entered}
+use Rattle.janlishuk.proofs.Laws.Call.{Shape, by-number, as-struct, Entry, callsOf, each-meets, entered}
 use Rattle.janlishuk.proofs.file.janlishuk_check.Reads as janlishuk-check
 use Rattle.janlishuk.proofs.file.janlishuk_name.Reads as janlishuk-name
 use Rattle.janlishuk.proofs.file.janlishuk_base.Reads as janlishuk-base
@@ -94,7 +94,7 @@ row-shape = as-struct rowAnswer (λ o. (refl, refl)) (λ n p. refl)
 -- the point as an enum answers what it means
 abbrev enum-shape : Shape EngineValues EnginePoint enumShown
 enum-shape =
-    numbered (λ o r. engineMeans r ≡ o) (λ o r e. (ap refusalNumber e, ap refusalPlace e)) (λ n p r e. engine-bare r e) (λ o r s e f. engine-once r s (e ∙ sym f))
+    by-number (λ o r. engineMeans r ≡ o) (λ o r e. (ap refusalNumber e, ap refusalPlace e)) (λ n p r e. engine-bare r e) (λ o r s e f. engine-once r s (e ∙ sym f))
 
 -- the record that is handed back of a file for a point: it is empty exactly where nothing is taken
 abbrev record-shape : RefT (List ℕ) → ℕ → ℕ → Point → Shape Taken (RefT (List ℕ)) recordShown

@@ -40,16 +40,16 @@ use Rattle.janlishuk.proofs.Laws.Line.{was-given}
 use Rattle.janlishuk.proofs.Laws.Order.{on-ground, file-order, reading-order, profile-order, verdict-order, plan-order, row-order}
 
 -- a verdict's number
-abbrev numbered : Bool → ℕ
-numbered t = cond t 1 0
+abbrev oneIf : Bool → ℕ
+oneIf t = cond t 1 0
 
 -- a verdict's number is 1 exactly if the path is clear
-pub number-is : (t : Bool) → (numbered t ≡ 1) ↔ (t ≡ true)
+pub number-is : (t : Bool) → (oneIf t ≡ 1) ↔ (t ≡ true)
 number-is true = ((λ e. refl), λ e. refl)
 number-is false = ((λ e. absurd (omega arith)), λ e. absurd (false≢true e))
 
 -- a verdict's number is 0 or 1
-one-number : (t : Bool) → (numbered t ≡ 0) ⊎ (numbered t ≡ 1)
+one-number : (t : Bool) → (oneIf t ≡ 0) ⊎ (oneIf t ≡ 1)
 one-number true = inr refl
 one-number false = inl refl
 

@@ -26,8 +26,8 @@ module _ {G R : Type 0} {refusal place : R → ℕ} {bare : ℕ → ℕ → R} w
         let of = numbers (refused number at) r h in
         rw (of .0, of .1) (rest number at r h)
 
-    abbrev pub numbered : ((o : Outcome G) (r s : R) → Means o r → Means o s → r ≡ s) → Shape G R (byNumber refusal place bare)
-    numbered once =
+    abbrev pub by-number : ((o : Outcome G) (r s : R) → Means o r → Means o s → r ≡ s) → Shape G R (byNumber refusal place bare)
+    by-number once =
         record {
           Means = Means;
           says = λ o r h i. rw (numbers o r h .0, numbers o r h .1) (first-of i);
@@ -40,7 +40,7 @@ module _ {G R : Type 0} {refusal place : R → ℕ} {bare : ℕ → ℕ → R} w
       → ((o : Outcome G) → (refusal (answer o) ≡ refusalNumber o) × (place (answer o) ≡ refusalPlace o))
       → ((number at : ℕ) → answer (refused number at) ≡ bare number at) → Shape G R (byNumber refusal place bare)
   as-struct answer numbers rest =
-      numbered (λ o r. r ≡ answer o) (λ o r e. rw e (numbers o)) (λ number at r e. e ∙ rest number at) (λ o r s e f. e ∙ sym f)
+      by-number (λ o r. r ≡ answer o) (λ o r e. rw e (numbers o)) (λ number at r e. e ∙ rest number at) (λ o r s e f. e ∙ sym f)
 
 -- a call, and that it meets demand 1
 pub record Entry : Type 1 where

@@ -29,14 +29,11 @@ use Rattle.terrain.proofs.Laws.Checked.{gave-is, not-covered, record-pa
 -- at any place a record is taken, or refusal 5 is given
 pub taken-or-5 : (file : List ℕ) (s : Place) → ((t : Taken) × (taken file s ≡ given t)) ⊎ (taken file s ≡ refused 5 0)
 unfolding taken
-taken-or-5 file s = go (covered file (number (s .rectangle)))
+taken-or-5 file s = go (not (covered file (number (s .rectangle)))) _
   where
-    own : Taken
-    own = record { entry = entry file (number (s .rectangle)); place = s }
-
-    go : (c : Bool) → ((t : Taken) × (unless (not c) 5 (given own) ≡ given t)) ⊎ (unless (not c) 5 (given own) ≡ refused 5 0)
-    go true = inl (own, refl)
-    go false = inr refl
+    go : (c : Bool) (own : Taken) → ((t : Taken) × (unless c 5 (given own) ≡ given t)) ⊎ (unless c 5 (given own) ≡ refused 5 0)
+    go true own = inr refl
+    go false own = inl (own, refl)
 
 -- the record that is taken is that of the place's own rectangle, and the place in it is the place itself
 pub taken-own : (file : List ℕ) (s : Place) (t : Taken) → taken file s ≡ given t
