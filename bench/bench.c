@@ -1,7 +1,7 @@
 /* Asks the library and plain C the same questions about two made files.
  *   bench same                     compares all answers of the two over many questions, also about damaged files; exit 1 on a difference
  *   bench CALL SIDE FILE TIMES     makes the file, asks the call TIMES times, and prints its answer
- * CALL is check, read, profile, verdict, plan or plan_none; SIDE is library, plain or every_pair; FILE is hundred or all. */
+ * CALL is check, read, upload, profile, verdict, plan or plan_none; SIDE is library, plain or every_pair; FILE is hundred or all. */
 #include "plain.h"
 
 #include <stdbool.h>
@@ -33,6 +33,8 @@ struct side {
     const char *name;
     struct janlishuk_check_answer (*check)(const uint8_t *, size_t, uint32_t, uint32_t);
     struct janlishuk_read_answer (*read)(const uint8_t *, size_t, uint32_t, uint32_t, struct janlishuk_point);
+    struct janlishuk_upload_answer (*upload)(const uint8_t *, size_t, uint32_t, uint32_t, const uint32_t *, size_t, const uint32_t *, size_t,
+                                             uint32_t *, size_t, uint8_t *, size_t, uint8_t *, size_t);
     struct janlishuk_profile_answer (*profile)(const uint8_t *, size_t, uint32_t, uint32_t, struct janlishuk_point, struct janlishuk_point);
     struct janlishuk_verdict_answer (*verdict)(const uint8_t *, size_t, uint32_t, uint32_t, struct janlishuk_point, struct janlishuk_point,
                                                uint32_t, uint32_t);
@@ -41,9 +43,30 @@ struct side {
 };
 
 static const struct side sides[] = {
-    {"library", janlishuk_check, janlishuk_read, janlishuk_profile, janlishuk_verdict, janlishuk_plan},
-    {"plain", plain_check, plain_read, plain_profile, plain_verdict, plain_plan},
-    {"every_pair", plain_check, plain_read, plain_profile, plain_verdict, plain_plan_every_pair},
+    {"library", janlishuk_check, janlishuk_read, janlishuk_upload, janlishuk_profile, janlishuk_verdict, janlishuk_plan},
+    {"plain", plain_check, plain_read, plain_upload, plain_profile, plain_verdict, plain_plan},
+    {"every_pair", plain_check, plain_read, plain_upload, plain_profile, plain_verdict, plain_plan_every_pair},
+};
+
+/* Room of a list of a survey: some entries more than it may have. */
+#define LIST 260u
+
+/* The points of a survey, and how many entries of each of its five lists are lent. */
+struct survey {
+    uint32_t eastings[LIST];
+    uint32_t northings[LIST];
+    size_t eastings_count;
+    size_t northings_count;
+    size_t heights_room;
+    size_t codes_room;
+    size_t refusals_room;
+};
+
+/* The lists that a survey fills. */
+struct filled {
+    uint32_t heights[LIST];
+    uint8_t codes[LIST];
+    uint8_t refusals[LIST];
 };
 
 /* A question: what a call is given. The masts are limits to a plan. */
@@ -56,6 +79,7 @@ struct question {
     struct janlishuk_point second;
     uint32_t a;
     uint32_t b;
+    struct survey survey;
 };
 
 /* Room for the longest file that is not refused. */
@@ -124,12 +148,24 @@ static size_t make_file(bool all, bool ridge)
     return RECORD * (6 + records);
 }
 
-/* The question that is measured: a path of 200 steps with masts or mast limits of 100. */
+/* A survey of so many points, all of them on the band, with just the room that it needs. */
+static void spread(struct survey *survey, size_t count)
+{
+    for (size_t k = 0; k < LIST; k++) {
+        survey->eastings[k] = WEST + 7500 * BAND_COLUMN + (uint32_t)(29311 * k % 75000);
+        survey->northings[k] = SOUTH + 15500 * BAND_ROW + (uint32_t)(61987 * k % 155000);
+    }
+    survey->eastings_count = survey->northings_count = survey->heights_room = survey->codes_room = survey->refusals_room = count;
+}
+
+/* The question that is measured: a path of 200 steps with masts or mast limits of 100, and a survey of the most points. */
 static struct question long_path(size_t length)
 {
     struct janlishuk_point first = {ZONE, WEST + 307123, SOUTH + 190377};
     struct janlishuk_point second = {ZONE, first.easting + 60001, first.northing + 79999};
-    return (struct question){file, length, BASE, ZONE, first, second, 100, 100};
+    struct question q = {file, length, BASE, ZONE, first, second, 100, 100, {{0}, {0}, 0, 0, 0, 0, 0}};
+    spread(&q.survey, JANLISHUK_MOST_POINTS);
+    return q;
 }
 
 /* Asks for a check. In every ask_ function the answer's alignment fixes that of the stack, on which the cost of clearing memory depends. */
@@ -148,6 +184,31 @@ static void ask_read(const struct side *side, const struct question *q, unsigned
     while (times-- > 0)
         answer = side->read(q->file, q->length, q->base, q->zone, q->first);
     printf("refusal %u height %u code %u\n", answer.refusal, answer.height, answer.code);
+}
+
+/* The upload of a survey by one side, into these lists. */
+static struct janlishuk_upload_answer upload(const struct side *side, const struct question *q, struct filled *lists)
+{
+    const struct survey *s = &q->survey;
+    return side->upload(q->file, q->length, q->base, q->zone, s->eastings, s->eastings_count, s->northings, s->northings_count,
+                        lists->heights, s->heights_room, lists->codes, s->codes_room, lists->refusals, s->refusals_room);
+}
+
+/* Asks for an upload. */
+static void ask_upload(const struct side *side, const struct question *q, unsigned long times)
+{
+    _Alignas(4096) struct janlishuk_upload_answer answer = {0};
+    static struct filled lists;
+    while (times-- > 0)
+        answer = upload(side, q, &lists);
+    uint64_t heights = 0, codes = 0, refusals = 0;
+    for (size_t k = 0; k < q->survey.eastings_count; k++) {
+        heights += lists.heights[k];
+        codes += lists.codes[k];
+        refusals += lists.refusals[k];
+    }
+    printf("refusal %u heights %llu codes %llu refusals %llu\n", answer.refusal, (unsigned long long)heights, (unsigned long long)codes,
+           (unsigned long long)refusals);
 }
 
 /* Asks for a profile. */
@@ -182,20 +243,24 @@ static void ask_plan(const struct side *side, const struct question *q, unsigned
     printf("refusal %u first %u second %u\n", answer.refusal, answer.first, answer.second);
 }
 
-/* All five answers to a question. */
+/* All six answers to a question, with the lists that the upload fills. */
 struct answers {
     struct janlishuk_check_answer check;
     struct janlishuk_read_answer read;
+    struct janlishuk_upload_answer upload;
+    struct filled lists;
     struct janlishuk_profile_answer profile;
     struct janlishuk_verdict_answer verdict;
     struct janlishuk_plan_answer plan;
 };
 
-/* Asks one side all five calls. */
+/* Asks one side all six calls. Before the upload its lists hold the same on each side. */
 static void ask_all(const struct side *side, const struct question *q, struct answers *answers)
 {
     answers->check = side->check(q->file, q->length, q->base, q->zone);
     answers->read = side->read(q->file, q->length, q->base, q->zone, q->first);
+    memset(&answers->lists, 0xA5, sizeof answers->lists);
+    answers->upload = upload(side, q, &answers->lists);
     answers->profile = side->profile(q->file, q->length, q->base, q->zone, q->first, q->second);
     answers->verdict = side->verdict(q->file, q->length, q->base, q->zone, q->first, q->second, q->a, q->b);
     answers->plan = side->plan(q->file, q->length, q->base, q->zone, q->first, q->second, q->a, q->b);
@@ -208,16 +273,26 @@ static bool equal_profiles(const struct janlishuk_profile_answer *p, const struc
            memcmp(p->codes, q->codes, sizeof p->codes) == 0;
 }
 
-/* Whether all five answers are equal in every field; those other than the profile have no gaps between their fields. */
+/* Whether the lists of two uploads are equal in every entry. */
+static bool equal_lists(const struct filled *p, const struct filled *q)
+{
+    return memcmp(p->heights, q->heights, sizeof p->heights) == 0 && memcmp(p->codes, q->codes, sizeof p->codes) == 0 &&
+           memcmp(p->refusals, q->refusals, sizeof p->refusals) == 0;
+}
+
+/* Whether all six answers are equal in every field; those other than the profile have no gaps between their fields. */
 static bool equal_answers(const struct answers *p, const struct answers *q)
 {
     return memcmp(&p->check, &q->check, sizeof p->check) == 0 && memcmp(&p->read, &q->read, sizeof p->read) == 0 &&
-           equal_profiles(&p->profile, &q->profile) && memcmp(&p->verdict, &q->verdict, sizeof p->verdict) == 0 &&
+           memcmp(&p->upload, &q->upload, sizeof p->upload) == 0 && equal_lists(&p->lists, &q->lists) && equal_profiles(&p->profile, &q->profile) && memcmp(&p->verdict, &q->verdict, sizeof p->verdict) == 0 &&
            memcmp(&p->plan, &q->plan, sizeof p->plan) == 0;
 }
 
-/* How many questions were compared, by the refusal of their plan. */
+/* How many questions were compared, by the refusal of their plan, and by whether their upload was given, refused for its lists, or refused for
+ * the file; and how many points were uploaded, by their own refusal. */
 static unsigned long compared[10];
+static unsigned long uploads[3];
+static unsigned long points[7];
 
 /* Compares the answers of all sides to a question, ends the program where they differ, and else answers the plan. */
 static struct janlishuk_plan_answer compare(const struct question *q)
@@ -234,6 +309,9 @@ static struct janlishuk_plan_answer compare(const struct question *q)
         exit(1);
     }
     compared[library.plan.refusal]++;
+    uploads[library.upload.refusal == 0 ? 0 : library.upload.refusal == 10 ? 1 : 2]++;
+    for (size_t k = 0; library.upload.refusal == 0 && k < q->survey.eastings_count; k++)
+        points[library.lists.refusals[k]]++;
     return library.plan;
 }
 
@@ -264,11 +342,29 @@ static struct janlishuk_point some_point(uint32_t base)
     return point;
 }
 
-/* A question about the file: of its base or another, a path of some length and direction, and masts up to and above 100. */
+/* Some points of a survey, in lists of which now and then one is shorter or longer than the others. */
+static void some_survey(struct survey *survey, uint32_t base)
+{
+    static const size_t counts[] = {0, 1, 2, 3, 5, 8, 255, 256, 257};
+    size_t count = counts[some(40) == 0 ? 6 + some(3) : some(6)];
+    for (size_t k = 0; k < count; k++) {
+        struct janlishuk_point point = some_point(base);
+        survey->eastings[k] = point.easting;
+        survey->northings[k] = point.northing;
+    }
+    size_t *lengths[] = {&survey->eastings_count, &survey->northings_count, &survey->heights_room, &survey->codes_room, &survey->refusals_room};
+    for (size_t k = 0; k < 5; k++)
+        *lengths[k] = count + (k > 1 ? some(3) : 0);
+    if (some(3) == 0)
+        *lengths[some(5)] = count == 0 || some(4) == 0 ? count + 1 : count - 1;
+}
+
+/* A question about the file: of its base or another, a path of some length and direction, masts up to and above 100, and a survey. */
 static struct question some_question(size_t length)
 {
     static const uint32_t reaches[] = {0, 300, 500, 1000, 1500, 2000, 20000, 60000, 80000, 100000};
-    struct question q = {file, length, some(4) == 0 ? 4 * some(21) : BASE, ZONE, {0}, {0}, some(105), some(105)};
+    struct question q = {file, length, some(4) == 0 ? 4 * some(21) : BASE, ZONE, {0}, {0}, some(105), some(105), {{0}, {0}, 0, 0, 0, 0, 0}};
+    some_survey(&q.survey, q.base);
     uint32_t reach = reaches[some(10)];
     q.first = some_point(q.base);
     q.second = q.first;
@@ -365,6 +461,9 @@ static int same(void)
         printf(" %lu", compared[refusal]);
         every = every && compared[refusal] > 0;
     }
+    printf("; uploads given %lu, refused with 10 %lu, with 1 to 3 %lu; points 0, 4, 5, 6: %lu %lu %lu %lu", uploads[0], uploads[1], uploads[2],
+           points[0], points[4], points[5], points[6]);
+    every = every && uploads[0] > 0 && uploads[1] > 0 && uploads[2] > 0 && points[0] > 0 && points[4] > 0 && points[5] > 0 && points[6] > 0;
     printf("%s\n", every ? "" : ", not all of them met");
     return every ? 0 : 1;
 }
@@ -377,7 +476,7 @@ struct call {
 };
 
 static const struct call calls[] = {
-    {"check", ask_check, false},     {"read", ask_read, false}, {"profile", ask_profile, false},
+    {"check", ask_check, false},     {"read", ask_read, false}, {"upload", ask_upload, false},  {"profile", ask_profile, false},
     {"verdict", ask_verdict, false}, {"plan", ask_plan, false}, {"plan_none", ask_plan, true},
 };
 

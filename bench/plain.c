@@ -1,4 +1,4 @@
-/* The calls check, read, profile, verdict and plan as document 01 has them, in plain C. */
+/* The calls check, read, profile, verdict and plan as document 01 has them, and upload as document 02 has it, in plain C. */
 #include "plain.h"
 
 #include <stdbool.h>
@@ -21,6 +21,7 @@
 #define MOST_Q 10000000000u
 #define MOST_N 200u
 #define MOST_MAST 100u
+#define MOST_POINTS 256u
 
 /* The southern boundaries of the bases 0, 4, .. 84, in 500 m units. */
 static const uint16_t southern[] = {0,     899,   1767,  2666,  3534,  4433,  5301,  6200,  7068,  7967,  8866,
@@ -284,6 +285,30 @@ struct janlishuk_read_answer plain_read(const uint8_t *file, size_t length, uint
     if (refusal != 0)
         return (struct janlishuk_read_answer){.refusal = refusal};
     return (struct janlishuk_read_answer){.height = height, .code = code};
+}
+
+/* The readings of a survey's points: one check of the file, then each point as a reading; beside a refusal nothing is written. */
+struct janlishuk_upload_answer plain_upload(const uint8_t *file, size_t length, uint32_t base, uint32_t zone, const uint32_t *eastings,
+                                            size_t eastings_count, const uint32_t *northings, size_t northings_count, uint32_t *heights,
+                                            size_t heights_room, uint8_t *codes, size_t codes_room, uint8_t *refusals,
+                                            size_t refusals_room)
+{
+    struct ground ground;
+    size_t count = eastings_count;
+    uint32_t refusal = open_file(file, length, base, zone, &ground);
+    if (refusal != 0)
+        return (struct janlishuk_upload_answer){.refusal = refusal};
+    if (northings_count != count || count > MOST_POINTS || heights_room < count || codes_room < count || refusals_room < count)
+        return (struct janlishuk_upload_answer){.refusal = 10};
+    for (size_t k = 0; k < count; k++) {
+        struct janlishuk_point point = {.zone = zone, .easting = eastings[k], .northing = northings[k]};
+        uint32_t height = 0;
+        uint8_t code = 0;
+        refusals[k] = (uint8_t)read_point(&ground, &point, &height, &code);
+        heights[k] = height;
+        codes[k] = code;
+    }
+    return (struct janlishuk_upload_answer){.refusal = 0};
 }
 
 /* The path profile; unused places are 0. */

@@ -2,6 +2,7 @@
  *
  * Every call takes any bytes and any numbers: nothing need be checked beforehand, and a call that cannot answer says so in `refusal` and
  * in no other way. No call keeps anything, allocates anything, or writes to the file. Calls may run at the same time in several threads.
+ * One call writes to memory that the caller lends, janlishuk_upload; the others only give their answer back.
  *
  * The file. `file` points to the whole terrain file in memory, at any alignment, and `length` is its length in bytes, all of which must
  * be readable. The caller owns the bytes, and lends them for the duration of the call; they must not change while it runs. Where
@@ -15,7 +16,8 @@
  *
  * Refusals. `refusal` 0 means that the answer is given. Else it is the first of these that holds, in the order 1, 2, 3, then for a point
  * 4, 5, 6; for a path 4 for the first end, 4 for the second, 7, 8, then 4, 5, 6 at each sample from 0 upward, then 9. Each call says
- * which numbers it can give, and skips the others.
+ * which numbers it can give, and skips the others. Numbers from 10 on are of document 02, which adds calls to those of document 01, and
+ * each such call says where its own number stands in the order.
  *   1  the length is not 1024 times a number from 6 to 4096
  *   2  the base is not 0, 4, .. 80, or the zone not 1 to 60
  *   3  the index breaks the rules of a file: the highest record number is not from 6 to the record count, or a position holds a number
@@ -27,6 +29,8 @@
  *   7  the two ends are one point, or more than 100 km apart
  *   8  a mast or mast limit is above 100 m, or the sample that janlishuk_engine_row is asked for is above n
  *   9  no pair of masts within the limits makes the path clear
+ *  10  the lists lent to janlishuk_upload do not fit: the two lists of points differ in length or hold more than 256 points, or one of
+ *      the other three is shorter than they are
  * `place` is the number of the sample at which a refusal was met, which may be 0; for a refusal that was met at no sample it is 0.
  * Beside a refusal all other fields of the answer are 0. Bytes between the fields are not set, so compare answers by their fields.
  *
@@ -51,6 +55,9 @@ extern "C" {
 /* What janlishuk_engine_point calls a point; 0 beside a refusal. */
 #define JANLISHUK_LAND 1
 #define JANLISHUK_WATER 2
+
+/* Most points that janlishuk_upload reads in one call. */
+#define JANLISHUK_MOST_POINTS 256
 
 struct janlishuk_point {
     uint32_t zone;
@@ -81,6 +88,11 @@ struct janlishuk_read_answer {
     uint32_t place;
     uint32_t height;
     uint32_t code;
+};
+
+struct janlishuk_upload_answer {
+    uint32_t refusal;
+    uint32_t place;
 };
 
 struct janlishuk_engine_point_answer {
@@ -132,6 +144,22 @@ struct janlishuk_base_answer janlishuk_base(uint32_t northing);
 
 /* Reads the ground at a point. height: in 1/250,000 m, exact, at most 2,047,500,000. code: its surface code. Refusals 1 to 6. */
 struct janlishuk_read_answer janlishuk_read(const uint8_t *file, size_t length, uint32_t base, uint32_t zone, struct janlishuk_point point);
+
+/* Reads the points of a survey, at most 256, with one check of the file. eastings and northings: point k is the one with easting
+ * eastings[k] and northing northings[k], in metres and of the file's zone; the two lists must have the same count, and a count of 0 is an
+ * answer too. heights, codes and refusals: entry k is what janlishuk_read gives for point k, its height in 1/250,000 m, its surface code
+ * and its refusal: 0 for a point that is read, or 4, 5 or 6, with height and code 0. So one refused point does not stop the others.
+ * Refusals of the whole call: 1, 2, 3, then 10; place is 0.
+ *
+ * The lists. Counts and rooms are in entries, not in bytes. The caller owns all five lists and lends them for the duration of the call.
+ * They overlap neither each other nor the file, and nothing else reads or writes them while the call runs. The two lists of points are
+ * not written. Of the other three, which may have more room than there are points, only the entries of the points are written: entries
+ * after the last point keep their content, and where the call is refused all three do. What they held before is never read. A list that
+ * has no entries may be a null pointer; else the pointer has the alignment of its type. */
+struct janlishuk_upload_answer janlishuk_upload(const uint8_t *file, size_t length, uint32_t base, uint32_t zone, const uint32_t *eastings,
+                                                size_t eastings_count, const uint32_t *northings, size_t northings_count,
+                                                uint32_t *heights, size_t heights_room, uint8_t *codes, size_t codes_room,
+                                                uint8_t *refusals, size_t refusals_room);
 
 /* Reads a point as the prediction engine takes it. kind: land or water (codes 3 and 6). code: its surface code. metres: its height or
  * level in metres, the exact height divided once by 250,000. Refusals 1 to 6. */

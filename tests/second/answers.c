@@ -1,4 +1,4 @@
-/* Asking a question of the library and of the rules, and comparing the two answers field by field. */
+/* Asking a question of the library and of the rules, and comparing the two answers field by field, and the lists of an upload too. */
 #include <inttypes.h>
 #include <stdio.h>
 #include <string.h>
@@ -11,7 +11,9 @@
 /* The name of a call. */
 const char *call_name(enum call call)
 {
-    static const char *const names[CALLS] = {"check", "name", "base", "read", "engine_point", "profile", "verdict", "plan", "engine_row"};
+    static const char *const names[CALLS] = {
+        "check", "name", "base", "read", "upload", "engine_point", "profile", "verdict", "plan", "engine_row",
+    };
     return names[call];
 }
 
@@ -25,6 +27,7 @@ void ask_library(const struct file *file, const struct question *q, union answer
     case NAME: answer->name = janlishuk_name(q->base, q->zone); break;
     case BASE: answer->base = janlishuk_base(q->first.northing); break;
     case READ: answer->read = janlishuk_read(bytes, length, q->base, q->zone, q->first); break;
+    case UPLOAD: answer->upload = upload_to_library(file, q); break;
     case ENGINE_POINT: answer->engine_point = janlishuk_engine_point(bytes, length, q->base, q->zone, q->first); break;
     case PROFILE: answer->profile = janlishuk_profile(bytes, length, q->base, q->zone, q->first, q->second); break;
     case VERDICT: answer->verdict = janlishuk_verdict(bytes, length, q->base, q->zone, q->first, q->second, q->a, q->b); break;
@@ -43,6 +46,7 @@ void ask_rules(const struct file *file, const struct question *q, union answer *
     case NAME: answer->name = rules_name(q->base, q->zone); break;
     case BASE: answer->base = rules_base(q->first.northing); break;
     case READ: answer->read = rules_read(asked, q->first); break;
+    case UPLOAD: answer->upload = upload_by_rules(asked, &q->survey); break;
     case ENGINE_POINT: answer->engine_point = rules_engine_point(asked, q->first); break;
     case PROFILE: answer->profile = rules_profile(asked, q->first, q->second); break;
     case VERDICT: answer->verdict = rules_verdict(asked, q->first, q->second, q->a, q->b); break;
@@ -90,6 +94,7 @@ static size_t fields_of(enum call call, const union answer *answer, uint64_t fie
         fields[count++] = answer->read.height;
         fields[count++] = answer->read.code;
         break;
+    case UPLOAD: break;
     case ENGINE_POINT:
         fields[count++] = answer->engine_point.kind;
         fields[count++] = answer->engine_point.code;
@@ -128,19 +133,20 @@ static void field_name(enum call call, size_t field, char name[32])
         snprintf(name, 32, "%s", names[call][field - 2]);
 }
 
-/* Whether every field of one answer is that of the other, doubles bit for bit. */
-bool same_answer(enum call call, const union answer *one, const union answer *other)
+/* Whether every field of the library's answer is that of the rules', doubles bit for bit, and for an upload all that its lists hold too. */
+bool same_answer(enum call call, const union answer *library, const union answer *rules)
 {
     uint64_t fields[2][MOST_FIELDS];
-    size_t count = fields_of(call, one, fields[0]);
-    fields_of(call, other, fields[1]);
-    return memcmp(fields[0], fields[1], count * sizeof fields[0][0]) == 0;
+    size_t count = fields_of(call, library, fields[0]);
+    fields_of(call, rules, fields[1]);
+    return memcmp(fields[0], fields[1], count * sizeof fields[0][0]) == 0 && (call != UPLOAD || same_lists());
 }
 
-/* Prints both answers field by field, with a mark where they differ. */
-void print_answers(enum call call, const union answer *library, const union answer *rules)
+/* Prints both answers field by field, with a mark where they differ, and of the lists of an upload the first entries that differ. */
+void print_answers(const struct question *q, const union answer *library, const union answer *rules)
 {
     uint64_t fields[2][MOST_FIELDS];
+    enum call call = q->call;
     size_t count = fields_of(call, library, fields[0]);
     fields_of(call, rules, fields[1]);
     printf("  %-16s %20s %20s\n", "field", "library", "rules");
@@ -149,6 +155,8 @@ void print_answers(enum call call, const union answer *library, const union answ
         field_name(call, k, name);
         printf("  %-16s %20" PRIu64 " %20" PRIu64 "%s\n", name, fields[0][k], fields[1][k], fields[0][k] == fields[1][k] ? "" : "  <<<");
     }
+    if (call == UPLOAD)
+        print_lists(&q->survey);
     if (call == ENGINE_POINT)
         printf("  metres: library %.17g, rules %.17g\n", library->engine_point.metres, rules->engine_point.metres);
     if (call == ENGINE_ROW)
@@ -162,6 +170,10 @@ void print_question(const struct file *file, const struct question *q)
     printf("  file %" PRIu32 " of %zu bytes, made for base %" PRIu32 " zone %" PRIu32 " with %" PRIu32 " rectangles covered, damage: %s\n",
            file->number, file->length, file->base, file->zone, file->covered_count, damage_name(file->damage));
     printf("  call janlishuk_%s: base %" PRIu32 " zone %" PRIu32 "\n", call_name(q->call), q->base, q->zone);
+    if (q->call == UPLOAD) {
+        print_survey(&q->survey);
+        return;
+    }
     printf("  first zone %" PRIu32 " easting %" PRIu32 " northing %" PRIu32 "\n", q->first.zone, q->first.easting, q->first.northing);
     printf("  second zone %" PRIu32 " easting %" PRIu32 " northing %" PRIu32 "\n", q->second.zone, q->second.easting, q->second.northing);
     printf("  a (or la, or i) %" PRIu32 ", b (or lb) %" PRIu32 "\n", q->a, q->b);

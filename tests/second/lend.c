@@ -12,7 +12,7 @@ static uint8_t *area;
 static size_t area_size;
 
 /* Ends the run where memory cannot be had. */
-static void need(bool done, const char *what)
+void need(bool done, const char *what)
 {
     if (!done) {
         perror(what);

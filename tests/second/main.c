@@ -1,9 +1,10 @@
-/* The second program: makes files and questions, and compares every answer of the library with that of document 01's rules.
+/* The second program: makes files and questions, and compares every answer of the library, and all that it leaves in lent lists, with that
+ * of the rules of documents 01 and 02.
  *
  * Usage: second [SEED [COUNT]], with the seed of the drawn numbers and the number of questions, a question being one call compared. The
- * questions of a seed are the same whatever the count. Ends with 1 at the first answer that differs, at a byte of a file that changed, at a
- * touch of memory that was not lent, and, where COUNT is at least 20,000, where something that can come up never did; below that the table
- * is only printed. */
+ * questions of a seed are the same whatever the count. Ends with 1 at the first answer or entry of a list that differs, at a byte of a file
+ * that changed, at a touch of memory that was not lent, and, where COUNT is at least 20,000, where something that can come up never did;
+ * below that the table is only printed. */
 #define _DEFAULT_SOURCE
 #include <inttypes.h>
 #include <signal.h>
@@ -33,11 +34,11 @@ static void print_where(const char *what)
     print_question(&file, &question);
 }
 
-/* Ends the run where the file was written to or memory outside of it was touched. */
+/* Ends the run where the file or a point of a list was written to, or memory touched that is of neither. */
 static void on_fault(int number)
 {
     printf("signal %d while an answer came from the %s\n", number, answering);
-    print_where("the file was written to, or memory touched that was not lent");
+    print_where("the file or a list of points was written to, or memory touched that was not lent");
     fflush(stdout);
     _exit(1);
 }
@@ -55,7 +56,7 @@ static void ask(void)
     ask_rules(&file, &question, &rules);
     if (!same_answer(question.call, &library, &rules)) {
         print_where("the answers differ");
-        print_answers(question.call, &library, &rules);
+        print_answers(&question, &library, &rules);
         exit(1);
     }
     tally_answer(&file, &question, &rules);

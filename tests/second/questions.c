@@ -189,7 +189,7 @@ static uint32_t draw_sample(const struct question *q, uint32_t base)
 /* Which call a question is of; more of those that are given a path. */
 static enum call draw_call(void)
 {
-    static const uint32_t shares[CALLS] = {4, 3, 4, 15, 10, 15, 20, 16, 13};
+    static const uint32_t shares[CALLS] = {4, 3, 4, 13, 8, 9, 14, 18, 15, 12};
     uint32_t kind = below(100);
     enum call call = CHECK;
     while (kind >= shares[call])
@@ -213,6 +213,8 @@ struct question draw_question(const struct file *file)
         q.first.northing = draw_northing();
     if (q.call == READ || q.call == ENGINE_POINT)
         q.first = draw_point(file, base, q.zone);
+    if (q.call == UPLOAD)
+        q.survey = draw_survey(file, base);
     if (q.call < PROFILE)
         return q;
     path = draw_path(file, base, q.zone, &planted);

@@ -1,5 +1,5 @@
-/* Document 01's rules, sentence by sentence. All arithmetic is in 64 bits, in which nothing here can overflow: what a caller passes is
- * multiplied only after it was found on the ground or within its limit. */
+/* The rules of document 01, and of request a) of document 02, sentence by sentence. All arithmetic is in 64 bits, in which nothing here can
+ * overflow: what a caller passes is multiplied only after it was found on the ground or within its limit. */
 #include "rules.h"
 
 /* The southern boundary yB(b) in 500 m units, by the formula: 31 x (7b + (1000 + (246 + b) x b) / 2000), division truncated. */
@@ -222,6 +222,35 @@ struct janlishuk_read_answer rules_read(struct rules_file file, struct janlishuk
     if (refusal != 0)
         return (struct janlishuk_read_answer){.refusal = refusal};
     return reading(file, point);
+}
+
+/* Whether the lists of an upload fit: the two lists of points do not differ in length nor hold over 256, and no other list is shorter. */
+bool rules_lists_fit(struct rules_lists lists)
+{
+    uint64_t points = lists.eastings_count;
+    if (points != lists.northings_count || points > 256)
+        return false;
+    return lists.heights_room >= points && lists.codes_room >= points && lists.refusals_room >= points;
+}
+
+/* Writes into the entries of each point what the single reading gives for it in the file's zone: height, code and refusal number, 0 for a
+ * point that is read. A refused point has height and code 0. Refusals 1, 2, 3, then 10 where the lists do not fit; any of these writes
+ * nothing. Entries after the last point keep their content. */
+struct janlishuk_upload_answer rules_upload(struct rules_file file, struct rules_lists lists)
+{
+    uint32_t refusal = file_refusal(file);
+    if (refusal == 0 && !rules_lists_fit(lists))
+        refusal = 10;
+    if (refusal != 0)
+        return (struct janlishuk_upload_answer){.refusal = refusal};
+    for (uint64_t k = 0; k < lists.eastings_count; k++) {
+        struct janlishuk_point point = {.zone = (uint32_t)file.zone, .easting = lists.eastings[k], .northing = lists.northings[k]};
+        struct janlishuk_read_answer read = reading(file, point);
+        lists.heights[k] = read.height;
+        lists.codes[k] = (uint8_t)read.code;
+        lists.refusals[k] = (uint8_t)read.refusal;
+    }
+    return (struct janlishuk_upload_answer){0};
 }
 
 /* Land with its height in metres and code, water (codes 3 and 6) with its level in metres and code, or a refusal. The metres are a

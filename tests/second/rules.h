@@ -1,5 +1,5 @@
-/* Document 01's rules a second time, in plain C and from the document alone. The answers have the types of janlishuk.h, so that they can be
- * compared field by field with the library's; nothing else of the library is used. */
+/* The rules of document 01, and of request a) of document 02, a second time, in plain C and from the documents alone. The answers have the
+ * types of janlishuk.h, so that they can be compared field by field with the library's; nothing else of the library is used. */
 #ifndef RULES_H
 #define RULES_H
 
@@ -26,6 +26,20 @@ struct rules_corner {
     uint64_t code;
 };
 
+/* The five lists that an upload is lent: the two of points, the three that it writes to, and how many entries each has. */
+struct rules_lists {
+    const uint32_t *eastings;
+    uint64_t eastings_count;
+    const uint32_t *northings;
+    uint64_t northings_count;
+    uint32_t *heights;
+    uint64_t heights_room;
+    uint8_t *codes;
+    uint64_t codes_room;
+    uint8_t *refusals;
+    uint64_t refusals_room;
+};
+
 /* What the clear test needs of a path, in millimetres: N, the first and last height rounded down, and N (T + G) of each sample. */
 struct rules_sight {
     int64_t n;
@@ -39,6 +53,7 @@ struct janlishuk_check_answer rules_check(struct rules_file file);
 struct janlishuk_name_answer rules_name(uint64_t base, uint64_t zone);
 struct janlishuk_base_answer rules_base(uint64_t northing);
 struct janlishuk_read_answer rules_read(struct rules_file file, struct janlishuk_point point);
+struct janlishuk_upload_answer rules_upload(struct rules_file file, struct rules_lists lists);
 struct janlishuk_engine_point_answer rules_engine_point(struct rules_file file, struct janlishuk_point point);
 struct janlishuk_profile_answer rules_profile(struct rules_file file, struct janlishuk_point first, struct janlishuk_point second);
 struct janlishuk_verdict_answer rules_verdict(struct rules_file file, struct janlishuk_point first, struct janlishuk_point second,
@@ -56,6 +71,7 @@ uint64_t rules_rectangle(uint64_t base, struct janlishuk_point point);
 uint64_t rules_word(uint64_t base, struct janlishuk_point point);
 uint64_t rules_position(const uint8_t *bytes, uint64_t n);
 void rules_corners(struct rules_file file, struct janlishuk_point point, struct rules_corner corners[4]);
+bool rules_lists_fit(struct rules_lists lists);
 uint64_t rules_square(struct janlishuk_point first, struct janlishuk_point second);
 uint64_t rules_steps(uint64_t q);
 struct janlishuk_point rules_sample(struct janlishuk_point first, struct janlishuk_point second, uint64_t n, uint64_t i);

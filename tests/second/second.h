@@ -1,4 +1,5 @@
-/* What the parts of the second program share: drawn numbers, made files, drawn questions, compared answers and the count of them. */
+/* What the parts of the second program share: drawn numbers, made files, drawn questions, lent lists, compared answers and the count of
+ * them. */
 #ifndef SECOND_H
 #define SECOND_H
 
@@ -17,6 +18,8 @@
 #define MOST_MISSING 64
 /* Most planted paths that are remembered of a file. */
 #define MOST_PLANTED 8
+/* Bytes of the page that each list of an upload is lent in: a page of x86-64. */
+#define LIST_BYTES 4096
 
 /* Every kind of damage: its name here, its name in the table, and the refusal that it must have led to at least once. */
 #define DAMAGES(D) \
@@ -85,7 +88,20 @@ struct file {
     struct path planted[MOST_PLANTED];
 };
 
-enum call { CHECK, NAME, BASE, READ, ENGINE_POINT, PROFILE, VERDICT, PLAN, ENGINE_ROW, CALLS };
+enum call { CHECK, NAME, BASE, READ, UPLOAD, ENGINE_POINT, PROFILE, VERDICT, PLAN, ENGINE_ROW, CALLS };
+
+/* The lists of an upload, in the order of the call: two of points, then three that it writes to. */
+enum list { LIST_EASTINGS, LIST_NORTHINGS, LIST_HEIGHTS, LIST_CODES, LIST_REFUSALS, LISTS };
+
+/* How a list is lent: with its last entry the last before the page beyond, with its first entry the first after the page before, as a
+ * pointer to the page beyond, where nothing can be touched, or as a null pointer. */
+enum lending { TO_END, FROM_START, BEYOND, AS_NULL };
+
+/* The lists of an upload: how many entries the call is told that each has, and how it is lent. What is in them is kept in lists.c. */
+struct survey {
+    size_t count[LISTS];
+    enum lending lending[LISTS];
+};
 
 /* A question: a call and its arguments. A point is in `first`, and so is the northing of a base; `a` and `b` are the masts or the mast
  * limits, and `a` is the sample of an engine row. */
@@ -97,6 +113,7 @@ struct question {
     struct janlishuk_point second;
     uint32_t a;
     uint32_t b;
+    struct survey survey;
 };
 
 union answer {
@@ -104,6 +121,7 @@ union answer {
     struct janlishuk_name_answer name;
     struct janlishuk_base_answer base;
     struct janlishuk_read_answer read;
+    struct janlishuk_upload_answer upload;
     struct janlishuk_engine_point_answer engine_point;
     struct janlishuk_profile_answer profile;
     struct janlishuk_verdict_answer verdict;
@@ -125,11 +143,12 @@ void make_file(struct file *file, uint32_t number);
 void plant_paths(struct file *file, bool flat);
 void damage_file(struct file *file);
 const char *damage_name(enum damage damage);
+void need(bool done, const char *what);
 void lend_file(struct file *file);
 bool same_bytes(const struct file *file);
 void take_back_file(struct file *file);
 
-/* questions.c, paths.c */
+/* questions.c, paths.c, surveys.c */
 struct rules_file opened(const struct file *file, uint32_t base, uint32_t zone);
 struct janlishuk_point point_at(uint32_t base, uint32_t zone, uint32_t rectangle, uint32_t east, uint32_t north);
 struct janlishuk_point draw_point(const struct file *file, uint32_t base, uint32_t zone);
@@ -137,14 +156,29 @@ uint32_t other_zone(uint32_t zone);
 struct question draw_question(const struct file *file);
 bool place_path(struct box box, uint32_t base, uint32_t zone, int64_t de, int64_t dn, struct path *path);
 struct path draw_path(const struct file *file, uint32_t base, uint32_t zone, bool *planted);
+struct survey draw_survey(const struct file *file, uint32_t base);
+
+/* lists.c */
+size_t entry_size(enum list list);
+void draw_pages(void);
+size_t kept_entries(const struct survey *survey, enum list list);
+void set_point(const struct survey *survey, size_t k, struct janlishuk_point point);
+uint32_t entry_before(const struct survey *survey, enum list list, size_t k);
+uint32_t entry_by_rules(const struct survey *survey, enum list list, size_t k);
+struct rules_lists lists_of_rules(const struct survey *survey);
+struct janlishuk_upload_answer upload_to_library(const struct file *file, const struct question *question);
+struct janlishuk_upload_answer upload_by_rules(struct rules_file file, const struct survey *survey);
+bool same_lists(void);
+void print_survey(const struct survey *survey);
+void print_lists(const struct survey *survey);
 
 /* answers.c */
 const char *call_name(enum call call);
 void ask_library(const struct file *file, const struct question *question, union answer *answer);
 void ask_rules(const struct file *file, const struct question *question, union answer *answer);
-bool same_answer(enum call call, const union answer *one, const union answer *other);
+bool same_answer(enum call call, const union answer *library, const union answer *rules);
 void print_question(const struct file *file, const struct question *question);
-void print_answers(enum call call, const union answer *library, const union answer *rules);
+void print_answers(const struct question *question, const union answer *library, const union answer *rules);
 
 /* tally.c */
 void tally_file(const struct file *file);

@@ -4,7 +4,7 @@
 
 #include "second.h"
 
-#define REFUSALS 10
+#define REFUSALS 11
 #define BASES 21
 #define CODES 8
 
@@ -49,6 +49,36 @@
     K(LAST_ROW, "reading: last row of a rectangle") \
     K(ROW_29, "reading: in the 29th row") \
     K(NOWHERE, "refusal 5 for rectangle 0") \
+    K(UPLOAD_NONE, "upload given: 0 points") \
+    K(UPLOAD_ONE, "upload given: 1 point") \
+    K(UPLOAD_255, "upload given: 255 points") \
+    K(UPLOAD_256, "upload given: 256 points") \
+    K(UPLOAD_NULL, "upload given: a list is a null pointer") \
+    K(UPLOAD_EXACT, "upload given: no room after the points") \
+    K(ROOM_HEIGHTS, "upload given: room after the heights") \
+    K(ROOM_CODES, "upload given: room after the codes") \
+    K(ROOM_REFUSALS, "upload given: room after the refusals") \
+    K(ROOM_VAST, "upload given: room of 2^32 and more") \
+    K(ALL_READ, "upload given: all of 2 or more read") \
+    K(ALL_REFUSED, "upload given: all of 2 or more refused") \
+    K(FIRST_REFUSED, "upload given: first refused, others read") \
+    K(LAST_REFUSED, "upload given: last refused, others read") \
+    K(POINT_READ, "point of an upload: read") \
+    K(POINT_4, "point of an upload: refusal 4") \
+    K(POINT_5, "point of an upload: refusal 5") \
+    K(POINT_6, "point of an upload: refusal 6") \
+    K(POINT_CLEARED, "point of an upload: old height cleared") \
+    K(MISFIT_257, "refusal 10 for 257 points only") \
+    K(MISFIT_MORE, "refusal 10 for more northings only") \
+    K(MISFIT_FEWER, "refusal 10 for fewer northings only") \
+    K(MISFIT_HEIGHTS, "refusal 10 for short heights only") \
+    K(MISFIT_CODES, "refusal 10 for short codes only") \
+    K(MISFIT_REFUSALS, "refusal 10 for short refusals only") \
+    K(MISFIT_VAST, "refusal 10 for a count of 2^32 and more") \
+    K(MISFIT_NULL, "refusal 10 beside a null pointer") \
+    K(LENGTH_FIRST, "refusal 1 where 10 would hold") \
+    K(OPENED_FIRST, "refusal 2 where 10 would hold") \
+    K(INDEX_FIRST, "refusal 3 where 10 would hold") \
     K(LOOSE, "passed: loose records") \
     K(ABOVE, "passed: records above M") \
     K(ALL_COVERED, "passed: every rectangle covered") \
@@ -63,10 +93,12 @@ static const char *const kind_texts[KIND_COUNT] = {KINDS(KIND_TEXT)};
 #define DAMAGE_REFUSAL(name, text, refusal) refusal,
 static const int damage_refusals[DAMAGE_KINDS] = {DAMAGES(DAMAGE_REFUSAL)};
 
-/* The refusals that each call can give, by document 01; 0 is an answer. */
-static const char *const possible[CALLS] = {
-    [CHECK] = "0123", [NAME] = "02", [BASE] = "04", [READ] = "0123456", [ENGINE_POINT] = "0123456", [PROFILE] = "01234567",
-    [VERDICT] = "012345678", [PLAN] = "0123456789", [ENGINE_ROW] = "012345678",
+/* The refusals that each call can give, by documents 01 and 02, a bit for each; 0 is an answer. */
+#define ONLY(number) (1u << (number))
+#define UP_TO(refusal) (ONLY((refusal) + 1) - 1)
+static const uint32_t possible[CALLS] = {
+    [CHECK] = UP_TO(3), [NAME] = ONLY(0) | ONLY(2), [BASE] = ONLY(0) | ONLY(4), [READ] = UP_TO(6), [UPLOAD] = UP_TO(3) | ONLY(10),
+    [ENGINE_POINT] = UP_TO(6), [PROFILE] = UP_TO(7), [VERDICT] = UP_TO(8), [PLAN] = UP_TO(9), [ENGINE_ROW] = UP_TO(8),
 };
 
 static uint64_t refusals[CALLS][REFUSALS];
@@ -221,6 +253,103 @@ static void tally_refusal(const struct file *file, const struct question *q, uin
     count_if(q->call == ENGINE_ROW && place > q->a, ROW_BEYOND);
 }
 
+/* Whether a list of an upload is lent as a null pointer. */
+static bool any_null(const struct survey *survey)
+{
+    bool any = false;
+    for (enum list list = 0; list < LISTS; list++)
+        any = any || survey->lending[list] == AS_NULL;
+    return any;
+}
+
+/* Whether a list of an upload is said to have 2^32 entries or more. */
+static bool any_vast(const struct survey *survey)
+{
+    bool any = false;
+    for (enum list list = 0; list < LISTS; list++)
+        any = any || survey->count[list] >> 32 != 0;
+    return any;
+}
+
+/* Counts what each point of an upload that is given came to. */
+static void tally_points(const struct survey *survey)
+{
+    size_t points = survey->count[LIST_EASTINGS];
+    size_t read = 0;
+    bool refused = false;
+    for (size_t k = 0; k < points; k++) {
+        uint32_t refusal = entry_by_rules(survey, LIST_REFUSALS, k);
+        refused = refusal != 0;
+        read += refused ? 0 : 1;
+        count_if(refusal == 0, POINT_READ);
+        count_if(refusal == 4, POINT_4);
+        count_if(refusal == 5, POINT_5);
+        count_if(refusal == 6, POINT_6);
+        count_if(refused && entry_before(survey, LIST_HEIGHTS, k) != 0, POINT_CLEARED);
+    }
+    count_if(points > 1 && read == points, ALL_READ);
+    count_if(points > 1 && read == 0, ALL_REFUSED);
+    count_if(points > 1 && read == points - 1 && entry_by_rules(survey, LIST_REFUSALS, 0) != 0, FIRST_REFUSED);
+    count_if(points > 1 && read == points - 1 && refused, LAST_REFUSED);
+}
+
+/* Counts what kind of upload was given. */
+static void tally_upload(const struct survey *survey)
+{
+    const size_t *count = survey->count;
+    size_t points = count[LIST_EASTINGS];
+    count_if(points == 0, UPLOAD_NONE);
+    count_if(points == 1, UPLOAD_ONE);
+    count_if(points == 255, UPLOAD_255);
+    count_if(points == 256, UPLOAD_256);
+    count_if(any_null(survey), UPLOAD_NULL);
+    count_if(count[LIST_HEIGHTS] == points && count[LIST_CODES] == points && count[LIST_REFUSALS] == points, UPLOAD_EXACT);
+    count_if(count[LIST_HEIGHTS] > points, ROOM_HEIGHTS);
+    count_if(count[LIST_CODES] > points, ROOM_CODES);
+    count_if(count[LIST_REFUSALS] > points, ROOM_REFUSALS);
+    count_if(any_vast(survey), ROOM_VAST);
+    tally_points(survey);
+}
+
+/* Which of the three lists that an upload writes to are shorter than the points, a bit for each. */
+static uint32_t shorter_lists(const struct survey *survey, size_t points)
+{
+    uint32_t shorter = 0;
+    for (enum list list = LIST_HEIGHTS; list < LISTS; list++)
+        if (survey->count[list] < points)
+            shorter |= ONLY(list);
+    return shorter;
+}
+
+/* Counts the reason why the lists of an upload do not fit, where there is only one, and whether a list is vast or null. */
+static void tally_misfit(const struct survey *survey)
+{
+    size_t eastings = survey->count[LIST_EASTINGS];
+    size_t northings = survey->count[LIST_NORTHINGS];
+    size_t points = eastings > northings ? eastings : northings;
+    uint32_t shorter = shorter_lists(survey, points);
+    bool alike = eastings == northings;
+    count_if(alike && points == 257 && shorter == 0, MISFIT_257);
+    count_if(northings > eastings && points <= 256 && shorter == 0, MISFIT_MORE);
+    count_if(northings < eastings && points <= 256 && shorter == 0, MISFIT_FEWER);
+    count_if(alike && points <= 256 && shorter == ONLY(LIST_HEIGHTS), MISFIT_HEIGHTS);
+    count_if(alike && points <= 256 && shorter == ONLY(LIST_CODES), MISFIT_CODES);
+    count_if(alike && points <= 256 && shorter == ONLY(LIST_REFUSALS), MISFIT_REFUSALS);
+    count_if(any_vast(survey), MISFIT_VAST);
+    count_if(any_null(survey), MISFIT_NULL);
+}
+
+/* Counts what kind of refusal an upload met. */
+static void tally_refused_upload(const struct survey *survey, uint32_t refusal)
+{
+    bool misfit = !rules_lists_fit(lists_of_rules(survey));
+    count_if(misfit && refusal == 1, LENGTH_FIRST);
+    count_if(misfit && refusal == 2, OPENED_FIRST);
+    count_if(misfit && refusal == 3, INDEX_FIRST);
+    if (refusal == 10)
+        tally_misfit(survey);
+}
+
 /* Counts an answer that library and rules agree upon. */
 void tally_answer(const struct file *file, const struct question *q, const union answer *answer)
 {
@@ -232,6 +361,10 @@ void tally_answer(const struct file *file, const struct question *q, const union
         bases_found[answer->base.base / 4]++;
     if (q->call == NAME || q->call == BASE)
         return;
+    if (refusal != 0 && q->call == UPLOAD) {
+        tally_refused_upload(&q->survey, refusal);
+        return;
+    }
     if (refusal != 0) {
         tally_refusal(file, q, refusal, answer->check.place);
         return;
@@ -239,6 +372,7 @@ void tally_answer(const struct file *file, const struct question *q, const union
     switch (q->call) {
     case CHECK: tally_check(file, q, answer->check.highest); break;
     case READ: tally_reading(file, q, answer->read.code); break;
+    case UPLOAD: tally_upload(&q->survey); break;
     case ENGINE_POINT:
         count_if(answer->engine_point.kind == JANLISHUK_LAND, LAND);
         count_if(answer->engine_point.kind == JANLISHUK_WATER, WATER);
@@ -260,7 +394,7 @@ static void print_counts(const char *name, const uint64_t *counts, int count)
 /* Prints all that was counted. */
 void print_tally(void)
 {
-    printf("\nrefusal             0      1      2      3      4      5      6      7      8      9\n");
+    printf("\nrefusal             0      1      2      3      4      5      6      7      8      9     10\n");
     for (int call = 0; call < CALLS; call++)
         print_counts(call_name((enum call)call), refusals[call], REFUSALS);
     printf("\n%-42s %6s\n", "kind of answer", "times");
@@ -275,7 +409,9 @@ void print_tally(void)
     printf("\n%-34s %6s %8s %8s %8s %8s\n", "damage", "files", "ref. 1", "ref. 2", "ref. 3", "other");
     for (int kind = 0; kind < DAMAGE_KINDS; kind++) {
         const uint64_t *of = damaged[kind];
-        uint64_t other = of[0] + of[4] + of[5] + of[6] + of[7] + of[8] + of[9];
+        uint64_t other = of[0];
+        for (int refusal = 4; refusal < REFUSALS; refusal++)
+            other += of[refusal];
         printf("%-34s %6" PRIu64, damage_name((enum damage)kind), damaged_files[kind]);
         printf(" %8" PRIu64 " %8" PRIu64 " %8" PRIu64 " %8" PRIu64 "\n", of[1], of[2], of[3], other);
     }
@@ -298,8 +434,9 @@ bool tally_lacks(void)
 {
     bool any = false;
     for (int call = 0; call < CALLS; call++)
-        for (const char *refusal = possible[call]; *refusal != '\0'; refusal++)
-            any |= lacks(refusals[call][*refusal - '0'], call_name((enum call)call), "refusal", *refusal - '0');
+        for (int refusal = 0; refusal < REFUSALS; refusal++)
+            if (possible[call] & ONLY(refusal))
+                any |= lacks(refusals[call][refusal], call_name((enum call)call), "refusal", refusal);
     for (int kind = 0; kind < KIND_COUNT; kind++)
         any |= lacks(kinds[kind], "kind of answer,", kind_texts[kind], -1);
     for (int code = 0; code < CODES; code++)

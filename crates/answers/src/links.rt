@@ -4,6 +4,7 @@ use crate::file::LENGTH;
 use crate::file::ZONE;
 use crate::points::at;
 use crate::say;
+use crate::say::wide;
 use janlishuk::Point;
 
 // A question about the path between two ends, each an easting and a northing: its profile, whether it
@@ -82,11 +83,6 @@ fn path(x0: u32, y0: u32, x1: u32, y1: u32) -> Ends {
     }
 }
 
-// The code, in 32 bits.
-fn code(code: u8) -> u32 {
-    code as u32
-}
-
 // Prints refusal, place, N of the path's profile, and the heights and codes of its first four samples.
 fn profile(file: &[u8; LENGTH], path: Ends) {
     let answer = janlishuk::janlishuk_profile(file, BASE, ZONE, path.first, path.second);
@@ -96,7 +92,7 @@ fn profile(file: &[u8; LENGTH], path: Ends) {
     say::line(b"  heights", &[h[0], h[1], h[2], h[3]]);
     say::line(
         b"  codes",
-        &[code(c[0]), code(c[1]), code(c[2]), code(c[3])],
+        &[wide(c[0]), wide(c[1]), wide(c[2]), wide(c[3])],
     );
 }
 

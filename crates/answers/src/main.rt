@@ -7,6 +7,7 @@ mod links;
 mod names;
 mod points;
 mod say;
+mod surveys;
 
 // Prints the answers to all questions.
 fn main() {
@@ -14,5 +15,6 @@ fn main() {
     names::names();
     damage::checks(file);
     points::points(&file);
+    surveys::surveys(&file);
     links::paths(&file);
 }

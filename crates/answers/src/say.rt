@@ -24,6 +24,11 @@ pub(crate) fn line(word: &[u8], numbers: &[u32]) {
     text(b"\n");
 }
 
+// The byte, in 32 bits.
+pub(crate) fn wide(byte: u8) -> u32 {
+    byte as u32
+}
+
 // `tenths` where the metres are exactly tenths / 10, else a number that no height has.
 pub(crate) fn tenths(metres: f64, tenths: u32) -> u32 {
     if tenths as f64 / 10.0 == metres {

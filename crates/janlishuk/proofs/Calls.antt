@@ -5,7 +5,7 @@ use mathlib.Core.Bool.{Bool}
 use mathlib.Core.List.{List, [], _∷_, _++_}
 use Prim.Native.Nat.{ℕ}
 use denote.Ref.{RefT}
-use Rattle.ground.specs.Outcome.{refused, refusalNumber, refusalPlace}
+use Rattle.ground.specs.Outcome.{refused, refusalNumber, refusalPlace, filledBy}
 use Rattle.ground.specs.Measure.{metres}
 use Rattle.ground.specs.Name.{fileName, nameAnswer}
 use Rattle.ground.specs.Boundary.{baseOf, baseAnswer}
@@ -26,6 +26,8 @@ use Rattle.reading.specs.declared.point.ReadAnswer.{ReadAnswer}
 use Rattle.reading.specs.declared.engine.EnginePoint.{EnginePoint}
 use Rattle.reading.specs.declared.engine.EnginePoint.the-variants as point
 use Rattle.reading.proofs.Laws.Means.{engine-once}
+use Rattle.survey.specs.Survey.{Lists, lists, upload, uploadAnswer}
+use Rattle.survey.specs.declared.UploadAnswer.{UploadAnswer}
 use Rattle.profile.specs.Profile.{Profile, profile, profileAnswer}
 use Rattle.profile.specs.Row.{row, rowAnswer}
 use Rattle.profile.specs.declared.ProfileAnswer.{ProfileAnswer}
@@ -38,17 +40,18 @@ use Rattle.link.specs.declared.clear.VerdictAnswer.{VerdictAnswer}
 use Rattle.plan.specs.declared.PlanAnswer.{PlanAnswer}
 use Rattle.plan.proofs.Laws.Plan.{plan-is}
 use Rattle.janlishuk.specs.Engine.{engineAnswer}
-use Rattle.janlishuk.specs.Order.{FirstOf, ofFile, ofName, ofNorthing, ofPoint, ofReading, ofTaking, ofProfile, ofVerdict, ofPlan, ofEngineRow}
-use Rattle.janlishuk.specs.Promise.{Checks, Names, FindsBase, Reads, HandsBack, Tells, Shows, Profiles, Judges, Plans, GivesRow}
-use Rattle.janlishuk.specs.Call.{EachMeets, checkShown, nameShown, baseShown, readShown, pointShown, profileShown, verdictShown, planShown, rowShown, enumShown, recordShown}
+use Rattle.janlishuk.specs.Order.{FirstOf, ofFile, ofName, ofNorthing, ofPoint, ofReading, ofUpload, ofTaking, ofProfile, ofVerdict, ofPlan, ofEngineRow}
+use Rattle.janlishuk.specs.Promise.{Checks, Names, FindsBase, Reads, Uploads, HandsBack, Tells, Shows, Profiles, Judges, Plans, GivesRow}
+use Rattle.janlishuk.specs.Call.{EachMeets, Surveyed, checkShown, nameShown, baseShown, readShown, uploadShown, pointShown, profileShown, verdictShown, planShown, rowShown, enumShown, recordShown}
 use Rattle.janlishuk.specs.declared.point.EngineAnswer.{EngineAnswer}
 use Rattle.janlishuk.proofs.Laws.Line.{giving, some-of}
-use Rattle.janlishuk.proofs.Laws.Order.{file-order, name-order, base-order, taking-order, reading-order, profile-order, verdict-order, plan-order, row-order}
-use Rattle.janlishuk.proofs.Laws.Call.{Shape, by-number, as-struct, Entry, callsOf, each-meets, entered}
+use Rattle.janlishuk.proofs.Laws.Order.{file-order, name-order, base-order, taking-order, reading-order, upload-order, profile-order, verdict-order, plan-order, row-order}
+use Rattle.janlishuk.proofs.Laws.Call.{Shape, by-number, as-struct, Entry, callsOf, each-meets, filling, entered}
 use Rattle.janlishuk.proofs.file.janlishuk_check.Reads as janlishuk-check
 use Rattle.janlishuk.proofs.file.janlishuk_name.Reads as janlishuk-name
 use Rattle.janlishuk.proofs.file.janlishuk_base.Reads as janlishuk-base
 use Rattle.janlishuk.proofs.point.janlishuk_read.Reads as janlishuk-read
+use Rattle.janlishuk.proofs.upload.janlishuk_upload.Reads as janlishuk-upload
 use Rattle.janlishuk.proofs.point.record.Reads as record-at
 use Rattle.janlishuk.proofs.point.engine_point.Reads as engine-point
 use Rattle.janlishuk.proofs.point.janlishuk_engine_point.Reads as janlishuk-engine-point
@@ -91,6 +94,10 @@ plan-shape = as-struct planAnswer (λ o. (refl, refl)) (λ n p. refl)
 abbrev row-shape : Shape Row RowAnswer rowShown
 row-shape = as-struct rowAnswer (λ o. (refl, refl)) (λ n p. refl)
 
+-- an upload answers what the lists hold afterwards, or leaves them as they were lent
+abbrev upload-shape : (lent : Lists) → Shape Lists Surveyed (uploadShown lent)
+upload-shape lent = as-struct (λ o. record { answer = uploadAnswer o; lists = filledBy lent o }) (λ o. (refl, refl)) (λ n p. refl)
+
 -- the point as an enum answers what it means
 abbrev enum-shape : Shape EngineValues EnginePoint enumShown
 enum-shape =
@@ -116,7 +123,7 @@ check-call =
     entered janlishuk-check.Asked janlishuk-check.Learnt (record {
       promised = λ κs (file, (base, (zone, end))) r (after, rest). Checks (file .now) (after .now) base zone r;
       order = λ κs (file, (base, (zone, end))). ofFile (file .now) base zone;
-      shown = λ κs. checkShown;
+      shown = λ κs a. checkShown;
       Unwritten = λ κs (file, (base, (zone, end))) x. x .0 .now ≡ file .now;
       outcome = λ κs (file, (base, (zone, end))). checked (file .now) base zone;
       shape = λ κs a. check-shape;
@@ -132,7 +139,7 @@ name-call =
     entered janlishuk-name.Asked janlishuk-name.Learnt (record {
       promised = λ κs (base, (zone, end)) r x. Names base zone r;
       order = λ κs (base, (zone, end)). ofName base zone;
-      shown = λ κs. nameShown;
+      shown = λ κs a. nameShown;
       Unwritten = λ κs a x. Unit {0};
       outcome = λ κs (base, (zone, end)). fileName base zone;
       shape = λ κs a. name-shape;
@@ -148,7 +155,7 @@ base-call =
     entered janlishuk-base.Asked janlishuk-base.Learnt (record {
       promised = λ κs (northing, end) r x. FindsBase northing r;
       order = λ κs (northing, end). ofNorthing northing;
-      shown = λ κs. baseShown;
+      shown = λ κs a. baseShown;
       Unwritten = λ κs a x. Unit {0};
       outcome = λ κs (northing, end). baseOf (metres northing);
       shape = λ κs a. base-shape;
@@ -164,7 +171,7 @@ read-call =
     entered janlishuk-read.Asked janlishuk-read.Learnt (record {
       promised = λ κs (file, (base, (zone, (spot, end)))) r (after, rest). Reads (file .now) (after .now) base zone spot r;
       order = λ κs (file, (base, (zone, (spot, end)))). ofReading (file .now) base zone spot;
-      shown = λ κs. readShown;
+      shown = λ κs a. readShown;
       Unwritten = λ κs (file, (base, (zone, (spot, end)))) x. x .0 .now ≡ file .now;
       outcome = λ κs (file, (base, (zone, (spot, end)))). reading (file .now) base zone spot;
       shape = λ κs a. read-shape;
@@ -174,13 +181,34 @@ read-call =
       ordered = λ κs (file, (base, (zone, (spot, end)))). reading-order (file .now) base zone spot;
     })
 
+-- what five lent lists hold
+abbrev held : RefT (List ℕ) × (RefT (List ℕ) × (RefT (List ℕ) × (RefT (List ℕ) × (RefT (List ℕ) × Unit {0})))) → Lists
+held (eastings, (northings, (heights, (codes, (refusals, end))))) =
+    lists (eastings .now) (northings .now) (heights .now) (codes .now) (refusals .now)
+
+-- `janlishuk_upload`: 1, 2, 3, 10. A caller has the answer, and the lists that were lent.
+abbrev pub upload-call : Entry
+upload-call =
+    filling janlishuk-upload.Asked janlishuk-upload.Learnt (λ κs r (after, (base, (zone, left))). record { answer = r; lists = held left }) (record {
+      promised = λ κs (file, (base, (zone, lent))) r (after, (b, (z, left))). Uploads (file .now) (after .now) base zone (held lent) (held left) r;
+      order = λ κs (file, (base, (zone, lent))). ofUpload (file .now) base zone (held lent);
+      shown = λ κs (file, (base, (zone, lent))). uploadShown (held lent);
+      Unwritten = λ κs (file, (base, (zone, lent))) x. x .0 .now ≡ file .now;
+      outcome = λ κs (file, (base, (zone, lent))). upload (file .now) base zone (held lent);
+      shape = λ κs (file, (base, (zone, lent))). upload-shape (held lent);
+      asks = λ κs a. tt;
+      promises = λ κs a r x h. h;
+      keeps = λ κs a r x h. (λ k. record { answer = h .0 .answer k; lists = h .0 .lists k }, h .1);
+      ordered = λ κs (file, (base, (zone, lent))). upload-order (file .now) base zone (held lent);
+    })
+
 -- `record`: 1 to 5. It has no number: the part is empty exactly when a refusal holds or the rectangle is not covered.
 abbrev pub record-call : Entry
 record-call =
     entered record-at.Asked record-at.Learnt (record {
       promised = λ κs (file, (base, (zone, (spot, end)))) r (after, rest). HandsBack file after base zone spot r;
       order = λ κs (file, (base, (zone, (spot, end)))). ofTaking (file .now) base zone spot;
-      shown = λ κs. recordShown;
+      shown = λ κs a. recordShown;
       Unwritten = λ κs (file, (base, (zone, (spot, end)))) x. x .0 .now ≡ file .now;
       outcome = λ κs (file, (base, (zone, (spot, end)))). recordFor (file .now) base zone spot;
       shape = λ κs (file, (base, (zone, (spot, end)))). record-shape file base zone spot;
@@ -196,7 +224,7 @@ enum-call =
     entered engine-point.Asked engine-point.Learnt (record {
       promised = λ κs (file, (base, (zone, (spot, end)))) r (after, rest). Tells (file .now) (after .now) base zone spot r;
       order = λ κs (file, (base, (zone, (spot, end)))). ofReading (file .now) base zone spot;
-      shown = λ κs. enumShown;
+      shown = λ κs a. enumShown;
       Unwritten = λ κs (file, (base, (zone, (spot, end)))) x. x .0 .now ≡ file .now;
       outcome = λ κs (file, (base, (zone, (spot, end)))). engine (reading (file .now) base zone spot);
       shape = λ κs a. enum-shape;
@@ -212,7 +240,7 @@ point-call =
     entered janlishuk-engine-point.Asked janlishuk-engine-point.Learnt (record {
       promised = λ κs (file, (base, (zone, (spot, end)))) r (after, rest). Shows (file .now) (after .now) base zone spot r;
       order = λ κs (file, (base, (zone, (spot, end)))). ofReading (file .now) base zone spot;
-      shown = λ κs. pointShown;
+      shown = λ κs a. pointShown;
       Unwritten = λ κs (file, (base, (zone, (spot, end)))) x. x .0 .now ≡ file .now;
       outcome = λ κs (file, (base, (zone, (spot, end)))). engine (reading (file .now) base zone spot);
       shape = λ κs a. point-shape;
@@ -228,7 +256,7 @@ profile-call =
     entered janlishuk-profile.Asked janlishuk-profile.Learnt (record {
       promised = λ κs (file, (base, (zone, (p, (q, end))))) r (after, rest). Profiles (file .now) (after .now) base zone p q r;
       order = λ κs (file, (base, (zone, (p, (q, end))))). ofProfile (file .now) base zone p q;
-      shown = λ κs. profileShown;
+      shown = λ κs a. profileShown;
       Unwritten = λ κs (file, (base, (zone, (p, (q, end))))) x. x .0 .now ≡ file .now;
       outcome = λ κs (file, (base, (zone, (p, (q, end))))). profile (file .now) base zone p q;
       shape = λ κs a. profile-shape;
@@ -244,7 +272,7 @@ verdict-call =
     entered janlishuk-verdict.Asked janlishuk-verdict.Learnt (record {
       promised = λ κs (file, (base, (zone, (p, (q, (a, (b, end))))))) r (after, rest). Judges (file .now) (after .now) base zone p q a b r;
       order = λ κs (file, (base, (zone, (p, (q, (a, (b, end))))))). ofVerdict (file .now) base zone p q a b;
-      shown = λ κs. verdictShown;
+      shown = λ κs a. verdictShown;
       Unwritten = λ κs (file, (base, (zone, (p, (q, (a, (b, end))))))) x. x .0 .now ≡ file .now;
       outcome = λ κs (file, (base, (zone, (p, (q, (a, (b, end))))))). verdict (file .now) base zone p q a b;
       shape = λ κs a. verdict-shape;
@@ -260,7 +288,7 @@ plan-call =
     entered janlishuk-plan.Asked janlishuk-plan.Learnt (record {
       promised = λ κs (file, (base, (zone, (p, (q, (a, (b, end))))))) r (after, rest). Plans (file .now) (after .now) base zone p q a b r;
       order = λ κs (file, (base, (zone, (p, (q, (a, (b, end))))))). ofPlan (file .now) base zone p q a b;
-      shown = λ κs. planShown;
+      shown = λ κs a. planShown;
       Unwritten = λ κs (file, (base, (zone, (p, (q, (a, (b, end))))))) x. x .0 .now ≡ file .now;
       outcome = λ κs (file, (base, (zone, (p, (q, (a, (b, end))))))). plan (file .now) base zone p q a b;
       shape = λ κs a. plan-shape;
@@ -276,7 +304,7 @@ row-call =
     entered janlishuk-engine-row.Asked janlishuk-engine-row.Learnt (record {
       promised = λ κs (file, (base, (zone, (p, (q, (i, end)))))) r (after, rest). GivesRow (file .now) (after .now) base zone p q i r;
       order = λ κs (file, (base, (zone, (p, (q, (i, end)))))). ofEngineRow (file .now) base zone p q i;
-      shown = λ κs. rowShown;
+      shown = λ κs a. rowShown;
       Unwritten = λ κs (file, (base, (zone, (p, (q, (i, end)))))) x. x .0 .now ≡ file .now;
       outcome = λ κs (file, (base, (zone, (p, (q, (i, end)))))). row (file .now) base zone p q i;
       shape = λ κs a. row-shape;
@@ -293,6 +321,7 @@ calls =
     ∷ name-call
     ∷ base-call
     ∷ read-call
+    ∷ upload-call
     ∷ record-call
     ∷ enum-call
     ∷ point-call

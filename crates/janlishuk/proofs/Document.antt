@@ -1,7 +1,8 @@
--- Sentences of document 01 that the promises and the order of checks rest on, in bytes and in numbers: where a point lies and what its corners weigh, which
--- bytes a position is, when a file passes, when a rectangle is not covered, which bases and zones are named, and the numbers of each call in their order. They
--- are stated in bytes and numbers, so that no definition can be wrong in the same way as the program. Assumes nothing.
-use mathlib.Core.Path.{_≡_, refl, _∙_, ap}
+-- Sentences of documents 01 and 02 that the promises and the order of checks rest on, in bytes and in numbers: where a point lies and what its corners weigh,
+-- which bytes a position is, when a file passes, when a rectangle is not covered, which bases and zones are named, when the lists of a survey fit and which
+-- points they hold, and the numbers of each call in their order. They are stated in bytes and numbers, so that no definition can be wrong in the same way as
+-- the program. Assumes nothing.
+use mathlib.Core.Path.{_≡_, refl, sym, _∙_, ap}
 use mathlib.Core.Logic.{_⊎_, inl, inr, _↔_}
 use mathlib.Core.Bool.{true, false}
 use mathlib.Core.List.{List, [], _∷_, _++_}
@@ -10,6 +11,7 @@ use native.Mathlib.Omega.{arith}
 use lib.Dec.{eqb·suc-zero}
 use lib.ListN.{length, getD}
 use Rattle.ground.specs.Outcome.{given}
+use Rattle.ground.specs.Measure.{metres}
 use Rattle.ground.specs.Boundary.{yB, rows, named}
 use Rattle.ground.specs.Place.{number, wordsOf, weightsOf, placeAt, placeOf}
 use Rattle.ground.specs.declared.point.Point.{Point}
@@ -18,9 +20,11 @@ use Rattle.index.specs.Index.{position, Passes}
 use Rattle.terrain.specs.Record.{entry, taken, Uncovered}
 use Rattle.terrain.specs.declared.record.Taken.{Taken}
 use Rattle.terrain.proofs.Laws.Taken.{taken-own, uncovered-is}
+use Rattle.survey.specs.Survey.{Lists, mostPoints, points, pointAt, Unfit}
+use Rattle.survey.proofs.Laws.Lists.{most-points-is, fits-exactly}
 use Rattle.path.specs.Path.{Q, N, pathOf, sample, farthest, tallest}
 use Rattle.path.proofs.Laws.Path.{farthest-is}
-use Rattle.janlishuk.specs.Order.{Line, FirstOf, placed, ofFile, ofName, ofNorthing, ofPoint, ofEnds, ofMasts, ofRow, ofSamples, ofPairs, ofReading, ofTaking, ofProfile, ofVerdict, ofPlan, ofEngineRow}
+use Rattle.janlishuk.specs.Order.{Line, FirstOf, placed, ofFile, ofName, ofNorthing, ofPoint, ofEnds, ofMasts, ofRow, ofSamples, ofPairs, ofReading, ofUpload, ofTaking, ofProfile, ofVerdict, ofPlan, ofEngineRow}
 
 -- "With x = E / 500, y = N / 500 truncated: Iy = (y - yB) / 31, Ix = (x - 250) / 15, rectangle n = 100 Iy + Ix. In it wx = x - 250 - 15 Ix,
 -- wy = y - yB - 31 Iy, word w = 16 wy + wx + 1. The corners are words w, w+1, w+16, w+17." "fx = E mod 500, fy = N mod 500. Weights: SW (500-fx)(500-fy),
@@ -168,9 +172,31 @@ pub named-bounds : (
 unfolding named
 named-bounds = (refl, refl, refl, refl, refl, refl, refl, refl)
 
--- the numbers that have a name, in document 01's digits: Q of 100 km, and 100 m of mast. Where the last file ends, y = 18,662, is in the table.
-pub named-numbers : (farthest ≡ 10000000000) × (tallest ≡ 100)
-named-numbers = (farthest-is, refl)
+-- the numbers that have a name, in the documents' digits: Q of 100 km, 100 m of mast, and 256 points. Where the last file ends, y = 18,662, is in the table.
+pub named-numbers : (farthest ≡ 10000000000) × (tallest ≡ 100) × (mostPoints ≡ 256)
+named-numbers = (farthest-is, refl, most-points-is)
+
+-- Document 02, request a): "up to 256 points, in two lent lists of eastings and northings in the file's zone".
+module _ (l : Lists) where
+  pub survey-point : (z i : ℕ) → pointAt z l i ≡ record { zone = z; easting = metres (getD (l .eastings) i 0); northing = metres (getD (l .northings) i 0) }
+  survey-point z i = refl
+
+  -- 10 does not hold exactly where the two lists of points have one length, of at most 256, and none of the others is shorter
+  pub record ListsFit : Type 0 where
+    pub points : length (l .eastings) ≡ length (l .northings)
+    pub most : length (l .eastings) ≤ 256
+    pub heights : length (l .eastings) ≤ length (l .heights)
+    pub codes : length (l .eastings) ≤ length (l .codes)
+    pub refusals : length (l .eastings) ≤ length (l .refusals)
+
+  pub unfit-means : (Unfit l → ⊥) ↔ ListsFit
+  unfit-means =
+      let law = fits-exactly l in (
+        (λ n.
+            let f = law .0 n in
+            record { points = sym (f .northings); most = f .most; heights = f .heights; codes = f .codes; refusals = f .refusals }),
+        λ f. law .1 (record { northings = sym (f .points); most = f .most; heights = f .heights; codes = f .codes; refusals = f .refusals }),
+      )
 
 -- the numbers of lines, in their order
 abbrev numbers : List Line → List ℕ
@@ -207,7 +233,8 @@ Numbered ls ns ps = (numbers ls ≡ ns) × (places ls ≡ ps)
 
 -- "Order: 1, 2, 3, then 4 for the first end, 4 for the second, 7, 8, then samples from 0 upward, each tried for 4, 5, 6 in that order, then 9." "The place is the
 -- sample number for refusals met at samples, else 0."
-module _ (file : List ℕ) (b z : ℕ) (p q : Point) (ma mb i : ℕ) where
+-- Document 02, request a): "Refusals: 1, 2, 3, then 10".
+module _ (file : List ℕ) (b z : ℕ) (p q : Point) (ma mb i : ℕ) (l : Lists) where
   -- how many samples the path has
   abbrev k : ℕ
   k = N (Q p q) + 1
@@ -217,6 +244,7 @@ module _ (file : List ℕ) (b z : ℕ) (p q : Point) (ma mb i : ℕ) where
     pub name : Numbered (ofName b z) (2 ∷ []) (0 ∷ [])
     pub base : Numbered (ofNorthing i) (4 ∷ []) (0 ∷ [])
     pub read : Numbered (ofReading file b z p) (1 ∷ 2 ∷ 3 ∷ 4 ∷ 5 ∷ 6 ∷ []) (0 ∷ 0 ∷ 0 ∷ 0 ∷ 0 ∷ 0 ∷ [])
+    pub upload : Numbered (ofUpload file b z l) (1 ∷ 2 ∷ 3 ∷ 10 ∷ []) (0 ∷ 0 ∷ 0 ∷ 0 ∷ [])
     pub taking : Numbered (ofTaking file b z p) (1 ∷ 2 ∷ 3 ∷ 4 ∷ 5 ∷ []) (0 ∷ 0 ∷ 0 ∷ 0 ∷ 0 ∷ [])
     pub profile : Numbered (ofProfile file b z p q) ((1 ∷ 2 ∷ 3 ∷ 4 ∷ 4 ∷ 7 ∷ []) ++ fours k) ((0 ∷ 0 ∷ 0 ∷ 0 ∷ 0 ∷ 0 ∷ []) ++ thrice k)
     pub verdict : Numbered (ofVerdict file b z p q ma mb) ((1 ∷ 2 ∷ 3 ∷ 4 ∷ 4 ∷ 7 ∷ 8 ∷ []) ++ fours k) ((0 ∷ 0 ∷ 0 ∷ 0 ∷ 0 ∷ 0 ∷ 0 ∷ []) ++ thrice k)
@@ -245,6 +273,7 @@ module _ (file : List ℕ) (b z : ℕ) (p q : Point) (ma mb i : ℕ) where
         name = (refl, refl);
         base = (refl, refl);
         read = (refl, refl);
+        upload = (refl, refl);
         taking = (refl, refl);
         profile = append (before []) samples (refl, refl) (at-samples k);
         verdict = append (before (ofMasts ma mb)) samples (refl, refl) (at-samples k);

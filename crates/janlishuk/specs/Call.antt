@@ -17,6 +17,8 @@ use Rattle.reading.specs.Engine.{engineMeans}
 use Rattle.reading.specs.declared.point.ReadAnswer.{ReadAnswer}
 use Rattle.reading.specs.declared.engine.EnginePoint.{EnginePoint}
 use Rattle.reading.specs.declared.engine.EnginePoint.the-variants as point
+use Rattle.survey.specs.Survey.{Lists}
+use Rattle.survey.specs.declared.UploadAnswer.{UploadAnswer}
 use Rattle.profile.specs.Profile.{zeros}
 use Rattle.profile.specs.declared.ProfileAnswer.{ProfileAnswer}
 use Rattle.profile.specs.declared.row.RowAnswer.{RowAnswer}
@@ -79,6 +81,16 @@ planShown = byNumber (λ r. r .refusal) (λ r. r .place) (λ n p. record { refus
 abbrev pub rowShown : Shown RowAnswer
 rowShown = byNumber (λ r. r .refusal) (λ r. r .place) (λ n p. record { refusal = n; place = p; row = record { height = nil; share = nil } })
 
+-- what a caller has of an upload: the answer, and the lists that were lent
+pub record Surveyed : Type 0 where
+  pub answer : UploadAnswer
+  pub lists : Lists
+
+-- an upload, by its number and place; beside a refusal the lists hold what they held
+abbrev pub uploadShown : Lists → Shown Surveyed
+uploadShown lent =
+    byNumber (λ v. v .answer .refusal) (λ v. v .answer .place) (λ n p. record { answer = record { refusal = n; place = p }; lists = lent })
+
 -- the point as an enum, by what its cases mean
 abbrev pub enumShown : Shown EnginePoint
 enumShown = byNumber (λ r. refusalNumber (engineMeans r)) (λ r. refusalPlace (engineMeans r)) (λ n p. point.Refused n)
@@ -87,8 +99,8 @@ enumShown = byNumber (λ r. refusalNumber (engineMeans r)) (λ r. refusalPlace (
 abbrev pub recordShown : Shown (RefT (List ℕ))
 recordShown = byPart (λ r. r)
 
--- A public call: its contract as the toolchain states it to callers, its promise, its order of checks, and how its results show a refusal. `a` are the
--- arguments, `r` is the result, `x` the arguments at the end, and κs are lifetimes.
+-- A public call: its contract as the toolchain states it to callers, its promise, its order of checks, what a caller has of it afterwards, and how that
+-- shows a refusal. `a` are the arguments, `r` is the result, `x` the arguments at the end, and κs are lifetimes.
 pub record Call : Type 1 where
   pub K : Type 0
   pub A : K → Type 0
@@ -101,18 +113,22 @@ pub record Call : Type 1 where
   pub promised : (κs : K) → A κs → R κs → S κs → Type 0
   -- its numbers in its order of checks, each with its condition (specs/Order)
   pub order : (κs : K) → A κs → List Line
-  pub shown : (κs : K) → Shown (R κs)
+  -- what a caller has of it: its result and, of a call that fills lists which are lent to it, these lists at the end
+  pub Has : K → Type 0
+  pub seen : (κs : K) → R κs → S κs → Has κs
+  pub shown : (κs : K) → A κs → Shown (Has κs)
   -- the terrain bytes are what they were
   pub Unwritten : (κs : K) → A κs → S κs → Type 0
 
 -- demand 1, sentence by sentence; that every call ends is what the toolchain proves of every function
 pub record Demand1 (c : Call) : Type 0 where
   pub keeps-promise : (κs : c .K) (a : c .A κs) (r : c .R κs) (x : c .S κs) → c .told κs a r x → c .promised κs a r x
-  pub answers-or-refuses : (κs : c .K) (a : c .A κs) (r : c .R κs) (x : c .S κs) → c .told κs a r x → Says (c .shown κs) (c .order κs a) r
+  pub answers-or-refuses : (κs : c .K) (a : c .A κs) (r : c .R κs) (x : c .S κs) → c .told κs a r x → Says (c .shown κs a) (c .order κs a) (c .seen κs r x)
   pub asks-nothing : (κs : c .K) (a : c .A κs) → c .asked κs a
-  pub carries-only : (κs : c .K) (a : c .A κs) (r : c .R κs) (x : c .S κs) → c .told κs a r x → Bare (c .shown κs) r
+  pub carries-only : (κs : c .K) (a : c .A κs) (r : c .R κs) (x : c .S κs) → c .told κs a r x → Bare (c .shown κs a) (c .seen κs r x)
   pub never-writes : (κs : c .K) (a : c .A κs) (r : c .R κs) (x : c .S κs) → c .told κs a r x → c .Unwritten κs a x
-  pub once : (κs : c .K) (a : c .A κs) (r s : c .R κs) (x y : c .S κs) → c .told κs a r x → c .told κs a s y → Same (c .shown κs) r s
+  pub once : (κs : c .K) (a : c .A κs) (r s : c .R κs) (x y : c .S κs) → c .told κs a r x → c .told κs a s y
+      → Same (c .shown κs a) (c .seen κs r x) (c .seen κs s y)
 
 -- each call of a list meets demand 1
 abbrev pub EachMeets : List Call → Type 0

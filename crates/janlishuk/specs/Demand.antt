@@ -13,11 +13,12 @@ use Rattle.ground.specs.declared.point.Point.{Point}
 use Rattle.terrain.specs.Record.{entry, taken, rectangleOf}
 use Rattle.terrain.specs.declared.record.Taken.{Taken}
 use Rattle.reading.specs.declared.point.ReadAnswer.{ReadAnswer}
+use Rattle.survey.specs.Survey.{Lists, points, pointAt}
 use Rattle.path.specs.Path.{Q, IsN}
 use Rattle.profile.specs.declared.ProfileAnswer.{ProfileAnswer}
 use Rattle.masts.specs.Clear.{roundedUp}
 use Rattle.link.specs.declared.clear.VerdictAnswer.{VerdictAnswer}
-use Rattle.janlishuk.specs.Order.{placed}
+use Rattle.janlishuk.specs.Order.{FirstOf, placed, ofPoint}
 use Rattle.janlishuk.specs.Promise.{Reads, Judges}
 
 -- sample i of n lies at ((N-i) E0 + i E1) / N truncated, northing likewise
@@ -82,3 +83,32 @@ pub record IsRecord (f r : RefT (List ℕ)) (b z : ℕ) (p : Point) : Type 0 whe
   pub byte : (k : ℕ) → k < 1024 → getD (r .now) k 0 ≡ getD (f .now) (1024 * (source .entry - 1) + k) 0
   pub block : r .ptr .0 ≡ f .ptr .0
   pub start : r .ptr .1 ≡ 1024 * (source .entry - 1) + f .ptr .1
+
+-- entry i of the lists is this answer, whatever d is taken for an entry that is not there
+pub record EntryIs (l : Lists) (i d : ℕ) (r : ReadAnswer) : Type 0 where
+  pub height : getD (l .heights) i d ≡ r .height
+  pub code : getD (l .codes) i d ≡ r .code
+  pub refusal : getD (l .refusals) i d ≡ r .refusal
+
+-- entry i of the lists is what it was
+pub record EntryStays (before after : Lists) (i d : ℕ) : Type 0 where
+  pub height : getD (after .heights) i d ≡ getD (before .heights) i d
+  pub code : getD (after .codes) i d ≡ getD (before .codes) i d
+  pub refusal : getD (after .refusals) i d ≡ getD (before .refusals) i d
+
+-- document 02, request a): what the lists that were lent hold after an upload that is given
+pub record FollowsReadings (file after : List ℕ) (b z : ℕ) (lent left : Lists) : Type 0 where
+  -- "each entry just what the single reading gives", for that point in the file's zone
+  pub entry : (i d : ℕ) → i < points lent → (r : ReadAnswer) → Reads file after b z (pointAt z lent i) r → EntryIs left i d r
+  -- "refusal numbers (0 for a point that is read)": 4, 5, 6 of the point, in that order
+  pub number : (i d : ℕ) → i < points lent → (r : ReadAnswer) → Reads file after b z (pointAt z lent i) r
+      → FirstOf (ofPoint file b z 0 (pointAt z lent i)) (getD (left .refusals) i d) (r .place)
+  -- "A refused point has height and code 0."
+  pub refused : (i d : ℕ) → i < points lent → (getD (left .refusals) i d ≡ 0 → ⊥) → (getD (left .heights) i d ≡ 0) × (getD (left .codes) i d ≡ 0)
+  -- "entries after the last point keep their content", and no list changes its length
+  pub rest : (i d : ℕ) → points lent ≤ i → EntryStays lent left i d
+  pub long :
+      (length (left .heights) ≡ length (lent .heights))
+      × ((length (left .codes) ≡ length (lent .codes)) × (length (left .refusals) ≡ length (lent .refusals)))
+  -- and the points stay
+  pub points : (left .eastings ≡ lent .eastings) × (left .northings ≡ lent .northings)

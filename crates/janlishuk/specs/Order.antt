@@ -15,6 +15,7 @@ use Rattle.index.specs.Bytes.{Whole}
 use Rattle.index.specs.Index.{Passes}
 use Rattle.terrain.specs.Record.{Uncovered}
 use Rattle.reading.specs.Demand.{SomeLacks}
+use Rattle.survey.specs.Survey.{Lists, Unfit}
 use Rattle.path.specs.Path.{Q, N, pathOf, sample, farthest}
 use Rattle.link.specs.Clear.{verdict}
 
@@ -111,6 +112,10 @@ ofLink eight file b z p q = ofFile file b z ++ ((ofEnds b z p q ++ eight) ++ ofS
 -- `ofNorthing`. `janlishuk_read`, `engine_point` and `janlishuk_engine_point`: 1 to 6
 abbrev pub ofReading : List ℕ → ℕ → ℕ → Point → List Line
 ofReading file b z p = ofFile file b z ++ ofPoint file b z 0 p
+
+-- `janlishuk_upload`: 1, 2, 3, then 10 of the lent lists (document 02, request a)
+abbrev pub ofUpload : List ℕ → ℕ → ℕ → Lists → List Line
+ofUpload file b z l = ofFile file b z ++ (no 10 (Unfit l) ∷ [])
 
 -- `record`: 1 to 5
 abbrev pub ofTaking : List ℕ → ℕ → ℕ → Point → List Line

@@ -17,6 +17,8 @@ use Rattle.reading.specs.Engine.{engine, engineMeans}
 use Rattle.terrain.specs.declared.check.CheckAnswer.{CheckAnswer}
 use Rattle.reading.specs.declared.point.ReadAnswer.{ReadAnswer}
 use Rattle.reading.specs.declared.engine.EnginePoint.{EnginePoint}
+use Rattle.survey.specs.Survey.{Lists, Uploaded}
+use Rattle.survey.specs.declared.UploadAnswer.{UploadAnswer}
 use Rattle.path.specs.Path.{askMasts}
 use Rattle.profile.specs.Profile.{linked, profile, profileAnswer}
 use Rattle.profile.specs.Row.{row, rowAnswer}
@@ -48,6 +50,11 @@ FindsBase northing r = r ≡ baseAnswer (baseOf (metres northing))
 -- `janlishuk_read`: the exact height and the surface code of a point, or refusal 1 to 6
 abbrev pub Reads : (before after : List ℕ) → ℕ → ℕ → Point → ReadAnswer → Type 0
 Reads file after b z p r = (r ≡ readAnswer (reading file b z p)) × Unwritten file after
+
+-- `janlishuk_upload`: what all five lent lists hold afterwards, of which three are filled with what the points give; or refusal 1, 2, 3 or 10, and they
+-- hold what they held
+abbrev pub Uploads : (before after : List ℕ) → ℕ → ℕ → (lent left : Lists) → UploadAnswer → Type 0
+Uploads file after b z lent left r = Uploaded file b z lent left r × Unwritten file after
 
 -- `record`: the record that a point is read from, a part of the file; empty where 1 to 5 holds
 abbrev pub HandsBack : (before after : RefT (List ℕ)) → ℕ → ℕ → Point → RefT (List ℕ) → Type 0

@@ -23,8 +23,11 @@ pub use profile::row::Row;
 pub use profile::row::RowAnswer;
 pub use reading::engine::EnginePoint;
 pub use reading::point::ReadAnswer;
+pub use survey::UploadAnswer;
 pub use terrain::check::CheckAnswer;
+pub use upload::janlishuk_upload;
 
 pub mod between;
 pub mod file;
 pub mod point;
+pub mod upload;

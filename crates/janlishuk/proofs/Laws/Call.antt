@@ -58,48 +58,57 @@ each-meets [] = tt
 each-meets (e ∷ es) = (e .meets, each-meets es)
 
 module _ {K : Type 0} {A R S : K → Type 0} (asked : (κs : K) → A κs → Type 0) (told : (κs : K) → A κs → R κs → S κs → Type 0) where
-  -- what is entered of a call with this contract
-  pub record Answers (G : Type 0) : Type 1 where
-    -- what is said of it: its promise, its numbers in their order, how its results show a refusal, and what stays unwritten
-    pub promised : (κs : K) → A κs → R κs → S κs → Type 0
-    pub order : (κs : K) → A κs → List Line
-    pub shown : (κs : K) → Shown (R κs)
-    pub Unwritten : (κs : K) → A κs → S κs → Type 0
-    -- why: what it comes to, and what it is to answer that; its contract asks nothing and tells its promise, its promise is that its result answers
-    -- what it comes to, and that is refused in its order
-    pub outcome : (κs : K) → A κs → Outcome G
-    pub shape : (κs : K) → A κs → Shape G (R κs) (shown κs)
-    pub asks : (κs : K) (a : A κs) → asked κs a
-    pub promises : (κs : K) (a : A κs) (r : R κs) (x : S κs) → told κs a r x → promised κs a r x
-    pub keeps : (κs : K) (a : A κs) (r : R κs) (x : S κs) → promised κs a r x → shape κs a .Means (outcome κs a) r × Unwritten κs a x
-    pub ordered : (κs : K) (a : A κs) → InOrder (order κs a) (outcome κs a)
+  -- What a caller has of a call with this contract is `seen`.
+  module _ {Has : K → Type 0} (seen : (κs : K) → R κs → S κs → Has κs) where
+    -- what is entered of the call
+    pub record Answers (G : Type 0) : Type 1 where
+      -- what is said of it: its promise, its numbers in their order, how it shows a refusal, and what stays unwritten
+      pub promised : (κs : K) → A κs → R κs → S κs → Type 0
+      pub order : (κs : K) → A κs → List Line
+      pub shown : (κs : K) → A κs → Shown (Has κs)
+      pub Unwritten : (κs : K) → A κs → S κs → Type 0
+      -- why: what it comes to, and what it is to answer that; its contract asks nothing and tells its promise, its promise is that what the caller has
+      -- answers what it comes to, and that is refused in its order
+      pub outcome : (κs : K) → A κs → Outcome G
+      pub shape : (κs : K) (a : A κs) → Shape G (Has κs) (shown κs a)
+      pub asks : (κs : K) (a : A κs) → asked κs a
+      pub promises : (κs : K) (a : A κs) (r : R κs) (x : S κs) → told κs a r x → promised κs a r x
+      pub keeps : (κs : K) (a : A κs) (r : R κs) (x : S κs) → promised κs a r x → shape κs a .Means (outcome κs a) (seen κs r x) × Unwritten κs a x
+      pub ordered : (κs : K) (a : A κs) → InOrder (order κs a) (outcome κs a)
 
-  -- what its result answers
-  pub answers : {G : Type 0} (e : Answers G) (κs : K) (a : A κs) (r : R κs) (x : S κs) → told κs a r x → e .shape κs a .Means (e .outcome κs a) r
-  answers e κs a r x h = e .keeps κs a r x (e .promises κs a r x h) .0
+    -- what it answers
+    pub answers : {G : Type 0} (e : Answers G) (κs : K) (a : A κs) (r : R κs) (x : S κs) → told κs a r x
+        → e .shape κs a .Means (e .outcome κs a) (seen κs r x)
+    answers e κs a r x h = e .keeps κs a r x (e .promises κs a r x h) .0
 
-  -- demand 1 follows
-  abbrev pub entered : {G : Type 0} → Answers G → Entry
-  entered e =
-      record {
-        call = record {
-          K = K;
-          A = A;
-          R = R;
-          S = S;
-          asked = asked;
-          told = told;
-          promised = e .promised;
-          order = e .order;
-          shown = e .shown;
-          Unwritten = e .Unwritten;
-        };
-        meets = record {
-          keeps-promise = e .promises;
-          answers-or-refuses = λ κs a r x h. e .shape κs a .says _ r (answers e κs a r x h) (e .ordered κs a);
-          asks-nothing = e .asks;
-          carries-only = λ κs a r x h. e .shape κs a .bare _ r (answers e κs a r x h);
-          never-writes = λ κs a r x h. e .keeps κs a r x (e .promises κs a r x h) .1;
-          once = λ κs a r s x y h k. e .shape κs a .once _ r s (answers e κs a r x h) (answers e κs a s y k);
-        };
-      }
+    -- demand 1 follows
+    abbrev pub filling : {G : Type 0} → Answers G → Entry
+    filling e =
+        record {
+          call = record {
+            K = K;
+            A = A;
+            R = R;
+            S = S;
+            asked = asked;
+            told = told;
+            promised = e .promised;
+            order = e .order;
+            Has = Has;
+            seen = seen;
+            shown = e .shown;
+            Unwritten = e .Unwritten;
+          };
+          meets = record {
+            keeps-promise = e .promises;
+            answers-or-refuses = λ κs a r x h. e .shape κs a .says _ _ (answers e κs a r x h) (e .ordered κs a);
+            asks-nothing = e .asks;
+            carries-only = λ κs a r x h. e .shape κs a .bare _ _ (answers e κs a r x h);
+            never-writes = λ κs a r x h. e .keeps κs a r x (e .promises κs a r x h) .1;
+            once = λ κs a r s x y h k. e .shape κs a .once _ _ _ (answers e κs a r x h) (answers e κs a s y k);
+          };
+        }
+
+  -- of a call that fills nothing, a caller has the result alone
+  abbrev pub entered : {G : Type 0} → Answers (λ κs r x. r) G → Entry
+  entered e = filling (λ κs r x. r) e

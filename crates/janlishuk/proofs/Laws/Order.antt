@@ -34,6 +34,8 @@ use Rattle.terrain.proofs.Laws.Checked.{checked-is}
 use Rattle.terrain.proofs.Laws.Taken.{taken-or-5, taken-is, place-is}
 use Rattle.reading.specs.Reading.{readCorners, readTaken, pointIn, reading}
 use Rattle.reading.proofs.Laws.Reading.{some-lacks}
+use Rattle.survey.specs.Survey.{Lists, points, unfit, withAnswers, entryOf, upload}
+use Rattle.survey.proofs.Laws.Lists.{unfit-is}
 use Rattle.path.specs.Path.{Q, N, asking, askMasts, pathOf, sample, farthest, overAsked, pathOn}
 use Rattle.path.proofs.Laws.Path.{path-is}
 use Rattle.profile.specs.Profile.{Link, unused, put, atSample, upTo, linkIn, linked, profile}
@@ -43,7 +45,7 @@ use Rattle.masts.specs.Plan.{planOf}
 use Rattle.masts.proofs.Laws.Plan.{planned}
 use Rattle.link.specs.Clear.{clear, verdict}
 use Rattle.plan.specs.Plan.{plan}
-use Rattle.janlishuk.specs.Order.{Line, IsNamed, OnGround, placed, ofFile, ofName, ofNorthing, ofRecord, ofPoint, ofEnds, ofMasts, ofRow, ofSamples, ofPairs, ofLink}
+use Rattle.janlishuk.specs.Order.{Line, IsNamed, OnGround, placed, ofFile, ofName, ofNorthing, ofRecord, ofPoint, ofEnds, ofMasts, ofRow, ofSamples, ofPairs, ofLink, ofUpload}
 use Rattle.janlishuk.proofs.Laws.Line.{InOrder, gave, tested, after, giving, met-at}
 
 -- the condition of 2
@@ -150,6 +152,13 @@ module _ (file : List ℕ) (b z : ℕ) (p : Point) where
   pub reading-order : InOrder (ofFile file b z ++ ofPoint file b z 0 p) (reading file b z p)
   unfolding reading
   reading-order = after (λ t. pointIn file t p) (file-order file b z) λ t e. point-order file b z t e p
+
+-- a survey is read in that order
+pub upload-order : (file : List ℕ) (b z : ℕ) (l : Lists) → InOrder (ofUpload file b z l) (upload file b z l)
+unfolding upload
+upload-order file b z l =
+    giving (λ t. withAnswers (entryOf file b z l) l (points l))
+    (after _ (file-order file b z) λ t e. where-so (unfit l) (unfit-is l) 10 (lit≤ tt) λ n. gave t)
 
 -- 4, 4, 7 of the ends of a path, then what the call has for 8
 module _ (b z : ℕ) (p q : Point) (ma mb i : ℕ) where

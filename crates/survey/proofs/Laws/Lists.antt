@@ -1,0 +1,124 @@
+-- The lent lists: when they fit together, and what each entry holds after the answers to the first k points were written. From the definition of the lists
+-- alone. Assumes nothing.
+use mathlib.Core.Path.{_≡_, refl, _∙_, ap}
+use mathlib.Core.Logic.{_↔_, _⊎_, inl, inr, ⊎-elim}
+use mathlib.Core.Bool.{Bool, true, false, not}
+use mathlib.Core.List.{List}
+use Prim.Native.Nat.{ℕ, zero, suc, _+_, _≤_, _<_}
+use native.Mathlib.Nat.{le-of-suc-le-suc, eq-or-lt-of-le}
+use native.Mathlib.Numerals.{add-one}
+use native.Mathlib.Omega.{arith}
+use lib.Dec.{eqb, ltb}
+use lib.ListN.{length, getD, set, length-set}
+use lib.Seq.{getD-set-same, getD-set-other}
+use borrow.Author.Tests.{ltb-true, ltb-false, lt-ltb, eqb-true, eqb-false, ne-eqb, not-true, not-false}
+use Rattle.ground.proofs.Laws.Test.{either, neither}
+use Rattle.reading.specs.declared.point.ReadAnswer.{ReadAnswer}
+use Rattle.survey.specs.Survey.{Lists, lists, mostPoints, points, Unfit, unfit, written, withAnswers}
+
+-- the most points, in document 02's digits
+pub most-points-is : mostPoints ≡ 256
+most-points-is = refl
+
+-- the test of the lists is the condition of 10
+pub unfit-is : (l : Lists) → (unfit l ≡ true) ↔ Unfit l
+unfolding unfit
+unfit-is l =
+    let differ : (not (eqb (length (l .northings)) (points l)) ≡ true) ↔ (length (l .northings) ≡ points l → ⊥) =
+    ((λ e. eqb-false _ _ (not-true _ e)), λ d. ap not (ne-eqb _ _ d)) in
+    let over : (a b : ℕ) → (ltb a b ≡ true) ↔ (a < b) = λ a b. (ltb-true a b, lt-ltb a b) in
+    either _ _ differ (either _ _ (over _ _) (either _ _ (over _ _) (either _ _ (over _ _) (over _ _))))
+
+-- lists that fit
+pub record Fits (l : Lists) : Type 0 where
+  pub northings : length (l .northings) ≡ points l
+  pub most : points l ≤ 256
+  pub heights : points l ≤ length (l .heights)
+  pub codes : points l ≤ length (l .codes)
+  pub refusals : points l ≤ length (l .refusals)
+
+-- lists that pass the test fit
+pub fits : (l : Lists) → unfit l ≡ false → Fits l
+unfolding unfit
+fits l e =
+    let a = neither _ _ e in
+    let b = neither _ _ (a .1) in
+    let c = neither _ _ (b .1) in
+    let d = neither _ _ (c .1) in
+    record {
+      northings = eqb-true _ _ (not-false _ (a .0));
+      most = ltb-false _ _ (b .0);
+      heights = ltb-false _ _ (c .0);
+      codes = ltb-false _ _ (d .0);
+      refusals = ltb-false _ _ (d .1);
+    }
+
+-- 10 does not hold exactly if the lists fit
+pub fits-exactly : (l : Lists) → (Unfit l → ⊥) ↔ Fits l
+fits-exactly l = ((λ n. fits l (fails (unfit l) λ e. n (unfit-is l .0 e))), λ f. ⊎-elim (λ d. d (f .northings)) λ x. tooShort f x)
+  where
+    fails : (t : Bool) → (t ≡ true → ⊥) → t ≡ false
+    fails true n = absurd (n refl)
+    fails false n = refl
+
+    tooShort : Fits l
+        → (mostPoints < points l) ⊎ ((length (l .heights) < points l) ⊎ ((length (l .codes) < points l) ⊎ (length (l .refusals) < points l))) → ⊥
+    tooShort f (inl h) = omega (arith, f .most)
+    tooShort f (inr (inl h)) = omega (arith, f .heights)
+    tooShort f (inr (inr (inl h))) = omega (arith, f .codes)
+    tooShort f (inr (inr (inr h))) = omega (arith, f .refusals)
+
+-- A list of which the first k entries are written:
+module _ (entry : ℕ → ℕ) (list : List ℕ) where
+  -- one entry more
+  pub one-more : (i : ℕ) → written entry list (i + 1) ≡ set (written entry list i) i (entry i)
+  unfolding written
+  one-more i = simp add-one
+
+  -- it is as long as it was
+  pub as-long : (k : ℕ) → length (written entry list k) ≡ length list
+  unfolding written
+  as-long zero = refl
+  as-long (suc k) = length-set (written entry list k) k (entry k) ∙ as-long k
+
+  -- an entry after the first k keeps its content; d is what is taken for an entry that is not there
+  pub after-last : (k i d : ℕ) → k ≤ i → getD (written entry list k) i d ≡ getD list i d
+  unfolding written
+  after-last zero i d h = refl
+  after-last (suc k) i d h = getD-set-other (written entry list k) k i (entry k) d (λ e. omega arith) ∙ after-last k i d (omega arith)
+
+  -- each of the first k holds what was written
+  pub entry-at : (k i d : ℕ) → k ≤ length list → i < k → getD (written entry list k) i d ≡ entry i
+  unfolding written
+  entry-at zero i d m h = absurd (omega arith)
+  entry-at (suc k) i d m h =
+      let at = written entry list k in
+      ⊎-elim
+      (λ (e : i ≡ k). rw e (getD-set-same at k (entry k) d (omega (arith, as-long k))))
+      (λ (u : i < k). getD-set-other at k i (entry k) d (λ e. omega arith) ∙ entry-at k i d (omega arith) u)
+      (eq-or-lt-of-le (le-of-suc-le-suc h))
+
+-- the lists of m have the points of l, and are as long
+pub record AsLong (l m : Lists) : Type 0 where
+  pub points : (m .eastings ≡ l .eastings) × (m .northings ≡ l .northings)
+  pub heights : length (m .heights) ≡ length (l .heights)
+  pub codes : length (m .codes) ≡ length (l .codes)
+  pub refusals : length (m .refusals) ≡ length (l .refusals)
+
+-- The lists of l with the answers to the first k points:
+module _ (answer : ℕ → ReadAnswer) (l : Lists) (k : ℕ) where
+  -- the points are the same, and the other lists as long
+  pub all-long : AsLong l (withAnswers answer l k)
+  all-long =
+      record {
+        points = (refl, refl);
+        heights = as-long (λ i. answer i .height) (l .heights) k;
+        codes = as-long (λ i. answer i .code) (l .codes) k;
+        refusals = as-long (λ i. answer i .refusal) (l .refusals) k;
+      }
+
+  -- one answer more
+  pub one-answer-more : {m : Lists} {r : ReadAnswer} → m ≡ withAnswers answer l k → r ≡ answer k
+      → lists (m .eastings) (m .northings) (set (m .heights) k (r .height)) (set (m .codes) k (r .code)) (set (m .refusals) k (r .refusal))
+      ≡ withAnswers answer l (k + 1)
+  one-answer-more is e = rw (is, e) (simp one-more)

@@ -1,0 +1,2 @@
+-- The laws of a survey.
+pub mod Laws
