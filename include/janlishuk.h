@@ -146,16 +146,17 @@ struct janlishuk_base_answer janlishuk_base(uint32_t northing);
 struct janlishuk_read_answer janlishuk_read(const uint8_t *file, size_t length, uint32_t base, uint32_t zone, struct janlishuk_point point);
 
 /* Reads the points of a survey, at most 256, with one check of the file. eastings and northings: point k is the one with easting
- * eastings[k] and northing northings[k], in metres and of the file's zone; the two lists must have the same count, and a count of 0 is an
- * answer too. heights, codes and refusals: entry k is what janlishuk_read gives for point k, its height in 1/250,000 m, its surface code
- * and its refusal: 0 for a point that is read, or 4, 5 or 6, with height and code 0. So one refused point does not stop the others.
- * Refusals of the whole call: 1, 2, 3, then 10; place is 0.
+ * eastings[k] and northing northings[k], in metres and of the file's zone; the two lists have the same count, which may be 0. heights,
+ * codes and refusals: entry k is what janlishuk_read gives for point k, its height in 1/250,000 m, its surface code and its refusal: 0
+ * for a point that is read, else 4, 5 or 6, with height and code 0. So a refused point does not stop the others. Refusals of the whole
+ * call: 1, 2, 3, then 10; place is 0.
  *
  * The lists. Counts and rooms are in entries, not in bytes. The caller owns all five lists and lends them for the duration of the call.
- * They overlap neither each other nor the file, and nothing else reads or writes them while the call runs. The two lists of points are
- * not written. Of the other three, which may have more room than there are points, only the entries of the points are written: entries
- * after the last point keep their content, and where the call is refused all three do. What they held before is never read. A list that
- * has no entries may be a null pointer; else the pointer has the alignment of its type. */
+ * They overlap neither each other nor the file. The two lists of points are not written, and must not change while the call runs; the
+ * other three nobody else may touch meanwhile, so calls in several threads have lists of their own to fill. These three may have more
+ * room than there are points: only the entries of the points are written, entries after the last point keep their content, and where the
+ * call is refused all entries do. What they held before is never read. A list of no entries may be a null pointer; any other pointer has
+ * the alignment of its type. */
 struct janlishuk_upload_answer janlishuk_upload(const uint8_t *file, size_t length, uint32_t base, uint32_t zone, const uint32_t *eastings,
                                                 size_t eastings_count, const uint32_t *northings, size_t northings_count,
                                                 uint32_t *heights, size_t heights_room, uint8_t *codes, size_t codes_room,

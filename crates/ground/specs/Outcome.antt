@@ -1,8 +1,8 @@
--- What every call comes to, and how an answer shows it. Document 01, "The numbers we say no with". Assumes nothing.
+-- What every call comes to, and how an answer shows it. Document 01, "The numbers we say no with"; numbers from 10 on are document 02's. Assumes nothing.
 use Prim.Native.Nat.{ℕ}
 use mathlib.Core.Bool.{Bool, true, false}
 
--- an answer; or a refusal: document 01's number, and the place
+-- an answer; or a refusal: its number, and the place
 pub data Outcome (A : Type 0) : Type 0 where
   given : A → Outcome A
   refused : ℕ → ℕ → Outcome A

@@ -1,7 +1,7 @@
 -- Demand 1, of any public call: "For any bytes and any numbers, every call ends with an answer or one numbered refusal of document 01, in its order of
--- checks. Callers need check nothing beforehand. A refusal carries only its number and place, and the terrain bytes are never written." Besides, the
--- contract of a call gives its promise, and two results that it allows are the same. proofs/Calls.antt lists the calls and shows this of each. Assumes
--- nothing.
+-- checks. Callers need check nothing beforehand. A refusal carries only its number and place, and the terrain bytes are never written." Document 02:
+-- "Numbers from 10 on join 01's table; where a request orders its own checks, demand 1 means that order." Besides, the contract of a call gives its
+-- promise, and two results that it allows are the same. proofs/Calls.antt lists the calls and shows this of each. Assumes nothing.
 use mathlib.Core.Path.{_≡_}
 use mathlib.Core.List.{List, [], _∷_}
 use mathlib.Core.Logic.{_↔_}

@@ -1,5 +1,6 @@
--- Document 01, "The numbers we say no with": the numbers of each call in its order of checks, each with its condition in the document's words, and what it
--- means that a refusal is that of the first condition to hold. That the promises keep this order is shown in proofs/Calls.antt. Assumes nothing.
+-- Document 01, "The numbers we say no with", and document 02, whose requests add the numbers from 10 on: the numbers of each call in its order of checks,
+-- each with its condition in the documents' words, and what it means that a refusal is that of the first condition to hold. That the promises keep this
+-- order is shown in proofs/Calls.antt. Assumes nothing.
 use mathlib.Core.Path.{_≡_}
 use mathlib.Core.Logic.{_⊎_}
 use mathlib.Core.Bool.{true}
