@@ -1,6 +1,6 @@
--- Demand 2, last sentence, and demand 3, in the caller's own fields, and what a record that is handed back is. That the promises keep them is shown in
--- proofs/Demand2.antt, proofs/Demand3.antt and proofs/Given.antt. The first two sentences of demand 2 are in the words of the reading's definitions,
--- `Readable` and `IsMean`. Assumes nothing.
+-- Demand 2, last sentence, and demand 3, in the caller's own fields, what a record that is handed back is, and what the lists of an upload hold (document 02,
+-- request a). That the promises keep them is shown in proofs/Demand2.antt, proofs/Demand3.antt, proofs/Given.antt and proofs/Survey.antt. The first two
+-- sentences of demand 2 are in the words of the reading's definitions, `Readable` and `IsMean`. Assumes nothing.
 use mathlib.Core.Path.{_≡_}
 use mathlib.Core.Logic.{_⊎_, _↔_}
 use mathlib.Core.List.{List}
