@@ -48,7 +48,7 @@ static const struct side sides[] = {
     {"every_pair", plain_check, plain_read, plain_upload, plain_profile, plain_verdict, plain_plan_every_pair},
 };
 
-/* Room of a list of a survey: some entries more than it may have. */
+/* Room of each list: some entries more than a survey may have points. */
 #define LIST 260u
 
 /* The points of a survey, and how many entries of each of its five lists are lent. */
@@ -284,7 +284,8 @@ static bool equal_lists(const struct filled *p, const struct filled *q)
 static bool equal_answers(const struct answers *p, const struct answers *q)
 {
     return memcmp(&p->check, &q->check, sizeof p->check) == 0 && memcmp(&p->read, &q->read, sizeof p->read) == 0 &&
-           memcmp(&p->upload, &q->upload, sizeof p->upload) == 0 && equal_lists(&p->lists, &q->lists) && equal_profiles(&p->profile, &q->profile) && memcmp(&p->verdict, &q->verdict, sizeof p->verdict) == 0 &&
+           memcmp(&p->upload, &q->upload, sizeof p->upload) == 0 && equal_lists(&p->lists, &q->lists) &&
+           equal_profiles(&p->profile, &q->profile) && memcmp(&p->verdict, &q->verdict, sizeof p->verdict) == 0 &&
            memcmp(&p->plan, &q->plan, sizeof p->plan) == 0;
 }
 
@@ -342,7 +343,7 @@ static struct janlishuk_point some_point(uint32_t base)
     return point;
 }
 
-/* Some points of a survey, in lists of which now and then one is shorter or longer than the others. */
+/* Some points of a survey, in lists of which in one survey of three one is shorter or longer than the others. */
 static void some_survey(struct survey *survey, uint32_t base)
 {
     static const size_t counts[] = {0, 1, 2, 3, 5, 8, 255, 256, 257};

@@ -16,8 +16,8 @@
  *
  * Refusals. `refusal` 0 means that the answer is given. Else it is the first of these that holds, in the order 1, 2, 3, then for a point
  * 4, 5, 6; for a path 4 for the first end, 4 for the second, 7, 8, then 4, 5, 6 at each sample from 0 upward, then 9. Each call says
- * which numbers it can give, and skips the others. Numbers from 10 on are of document 02, which adds calls to those of document 01, and
- * each such call says where its own number stands in the order.
+ * which numbers it can give, and skips the others. Numbers from 10 on are of document 02, in which customers asked for more calls than the
+ * first nine, and each such call says where its own number stands in the order.
  *   1  the length is not 1024 times a number from 6 to 4096
  *   2  the base is not 0, 4, .. 80, or the zone not 1 to 60
  *   3  the index breaks the rules of a file: the highest record number is not from 6 to the record count, or a position holds a number
@@ -147,16 +147,18 @@ struct janlishuk_read_answer janlishuk_read(const uint8_t *file, size_t length, 
 
 /* Reads the points of a survey, at most 256, with one check of the file. eastings and northings: point k is the one with easting
  * eastings[k] and northing northings[k], in metres and of the file's zone; the two lists have the same count, which may be 0. heights,
- * codes and refusals: entry k is what janlishuk_read gives for point k, its height in 1/250,000 m, its surface code and its refusal: 0
- * for a point that is read, else 4, 5 or 6, with height and code 0. So a refused point does not stop the others. Refusals of the whole
- * call: 1, 2, 3, then 10; place is 0.
+ * codes and refusals: entry k is what janlishuk_read gives for point k, its height in 1/250,000 m, its surface code and its refusal: 0 for
+ * a point that is read, else 4, which here means not on the file's ground, 5 or 6, with height and code 0. A height of 0 may also be read,
+ * so look at refusals[k]. A refused point does not stop the others. Refusals of the whole call: 1, 2, 3, then 10; place is 0. A survey of
+ * no points is not refused.
  *
- * The lists. Counts and rooms are in entries, not in bytes. The caller owns all five lists and lends them for the duration of the call.
- * They overlap neither each other nor the file. The two lists of points are not written, and must not change while the call runs; the
- * other three nobody else may touch meanwhile, so calls in several threads have lists of their own to fill. These three may have more
- * room than there are points: only the entries of the points are written, entries after the last point keep their content, and where the
- * call is refused all entries do. What they held before is never read. A list of no entries may be a null pointer; any other pointer has
- * the alignment of its type. */
+ * The lists. Counts and rooms are in entries, not in bytes. The room of heights, codes and refusals is at least the count of the points,
+ * else the call is refused with 10, and may be more. All counted entries must be readable, and those of heights, codes and refusals
+ * writable. The caller owns all five lists and lends them for the duration of the call. They must overlap neither each other nor the file.
+ * The two lists of points are not written, and must not change while the call runs; no other thread may read or write the other three
+ * meanwhile, so calls at the same time need lists of their own to fill. Only the entries of the points are written: entries after the last
+ * point keep their content, and where `refusal` is not 0 nothing is written at all. What the three held before is never read. A list of no
+ * entries may be a null pointer; any other pointer must have the alignment of its type. */
 struct janlishuk_upload_answer janlishuk_upload(const uint8_t *file, size_t length, uint32_t base, uint32_t zone, const uint32_t *eastings,
                                                 size_t eastings_count, const uint32_t *northings, size_t northings_count,
                                                 uint32_t *heights, size_t heights_room, uint8_t *codes, size_t codes_room,

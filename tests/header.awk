@@ -1,6 +1,7 @@
-# From the sources of the crates, prints a C program that compiles only where include/janlishuk.h has each exported call with the types
-# of its Rattle text, and each struct that a call takes or gives back with the size, the offsets and the types of its #[repr(C)] struct. A struct within
-# a struct is flat in C, under the names of its own fields, or, where it only wraps a number, under the name of the outer field.
+# From the sources of the crates, prints a C program that compiles only where include/janlishuk.h has each exported call with the types of
+# its Rattle text and with the names of its parameters, and each struct that a call takes or gives back with the size, the offsets and the
+# types of its #[repr(C)] struct. A struct within a struct is flat in C, under the names of its own fields, or, where it only wraps a
+# number, under the name of the outer field.
 
 function c_type(type) {
     return type == "u8" ? "uint8_t" : type == "u32" ? "uint32_t" : type == "f64" ? "double" : type in fields ? "struct " type : "unknown_" type
@@ -16,6 +17,12 @@ function count(text) {
 function c_parameter(type) {
     if (type ~ /^&(mut )?\[u(8|32)\]$/) return (type ~ /^&mut/ ? "" : "const ") c_type(substr(type, index(type, "[") + 1, length(type) - index(type, "[") - 1)) " *, size_t"
     return type in header ? "struct " header[type] : c_type(type)
+}
+
+# a parameter's names as C has them: a slice is a pointer and a length, that of the file `length`
+function c_names(name, type) {
+    if (type !~ /^&/) return name
+    return name " " (name == "file" ? "length" : name (type ~ /^&mut/ ? "_room" : "_count"))
 }
 
 # prints a struct, after those that it holds
@@ -87,6 +94,7 @@ END {
     print "    _Static_assert(offsetof(struct own, path) == offsetof(struct c, field), #c \".\" #field); \\"
     print "    _Static_assert(__builtin_types_compatible_p(TYPE(own, path), TYPE(c, field)), #c \".\" #field)"
     while ((getline line < "include/janlishuk.h") > 0) {
+        text = text " " line
         if (match(line, /^#define JANLISHUK_[A-Z_]+ [0-9]+/)) {
             split(line, word, " ")
             constant = substr(word[2], 11)
@@ -99,13 +107,27 @@ END {
         print_fields(top, "", "", header[top])
     }
     for (call in gives) {
-        list = ""
+        list = names = ""
         n = split(parameters[call], part, ",")
         for (i = 1; i <= n; i++) {
+            own = part[i]
+            gsub(/^ +|:.*/, "", own)
             sub(/^[^:]*: */, "", part[i])
             gsub(/ +$/, "", part[i])
             if (part[i] != "") list = list (list == "" ? "" : ", ") c_parameter(part[i])
+            if (part[i] != "") names = names " " c_names(own, part[i])
         }
+        # the header's own names, in their order
+        declared = substr(text, index(text, " " call "(") + length(call) + 2)
+        declared = substr(declared, 1, index(declared, ")") - 1)
+        n = split(declared, part, ",")
+        declared = ""
+        for (i = 1; i <= n; i++) {
+            sub(/ +$/, "", part[i])
+            sub(/.*[ *]/, "", part[i])
+            declared = declared " " part[i]
+        }
+        if (declared != names) print "#error " call " has the names" names ", and the header" declared
         print "struct " header[gives[call]] " (*own_" call ")(" list ") = " call ";"
         all = all " && own_" call
     }

@@ -34,7 +34,7 @@ static void print_where(const char *what)
     print_question(&file, &question);
 }
 
-/* Ends the run where the file or a point of a list was written to, or memory touched that is of neither. */
+/* Ends the run where the file or a list of points was written to, or memory was touched that was not lent. */
 static void on_fault(int number)
 {
     printf("signal %d while an answer came from the %s\n", number, answering);

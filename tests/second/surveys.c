@@ -1,7 +1,7 @@
 /* Drawing surveys for an upload: lists that fit, lists that do not, and points that are read and that are refused. */
 #include "second.h"
 
-/* Far more entries than a survey may have: just above 2^16 or 2^32, so that the low bits say a number below `bound`. */
+/* Far more entries than a survey may have: from 2^16 or 2^32 on, so that the low bits say a number below `bound`. */
 static size_t far_above(uint32_t bound)
 {
     size_t far = (size_t)1 << (chance(50) ? 16 : 32);

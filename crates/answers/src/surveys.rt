@@ -20,8 +20,8 @@ fn old_bytes() -> [u8; ROOM] {
     [77; ROOM]
 }
 
-// The eastings of the points: all are read at one point but for 1 to 4, which are refused with 6, 5 and
-// 4 and read elsewhere, and 255, the last that a survey may have, which is refused with 5.
+// The eastings of the points. Points 1, 2 and 3 are refused with 6, 5 and 4, and point 255, the last that
+// a survey may have, with 5; point 4 is read at a place of its own, all others at one place.
 fn eastings() -> [u32; ROOM] {
     let mut list = [500250; ROOM];
     list[1] = 500001;

@@ -26,7 +26,7 @@ use Rattle.reading.specs.declared.point.ReadAnswer.{ReadAnswer}
 use Rattle.reading.specs.declared.engine.EnginePoint.{EnginePoint}
 use Rattle.reading.specs.declared.engine.EnginePoint.the-variants as point
 use Rattle.reading.proofs.Laws.Means.{engine-once}
-use Rattle.survey.specs.Survey.{Lists, lists, upload, uploadAnswer}
+use Rattle.survey.specs.Survey.{Lists, fiveLists, upload, uploadAnswer}
 use Rattle.survey.specs.declared.UploadAnswer.{UploadAnswer}
 use Rattle.profile.specs.Profile.{Profile, profile, profileAnswer}
 use Rattle.profile.specs.Row.{row, rowAnswer}
@@ -182,24 +182,24 @@ read-call =
     })
 
 -- what five lent lists hold
-abbrev held : RefT (List ℕ) × (RefT (List ℕ) × (RefT (List ℕ) × (RefT (List ℕ) × (RefT (List ℕ) × Unit {0})))) → Lists
-held (eastings, (northings, (heights, (codes, (refusals, end))))) =
-    lists (eastings .now) (northings .now) (heights .now) (codes .now) (refusals .now)
+abbrev contents : RefT (List ℕ) × (RefT (List ℕ) × (RefT (List ℕ) × (RefT (List ℕ) × (RefT (List ℕ) × Unit {0})))) → Lists
+contents (eastings, (northings, (heights, (codes, (refusals, end))))) =
+    fiveLists (eastings .now) (northings .now) (heights .now) (codes .now) (refusals .now)
 
 -- `janlishuk_upload`: 1, 2, 3, 10. A caller has the answer, and the lists that were lent.
 abbrev pub upload-call : Entry
 upload-call =
-    filling janlishuk-upload.Asked janlishuk-upload.Learnt (λ κs r (after, (base, (zone, left))). record { answer = r; lists = held left }) (record {
-      promised = λ κs (file, (base, (zone, lent))) r (after, (b, (z, left))). Uploads (file .now) (after .now) base zone (held lent) (held left) r;
-      order = λ κs (file, (base, (zone, lent))). ofUpload (file .now) base zone (held lent);
-      shown = λ κs (file, (base, (zone, lent))). uploadShown (held lent);
+    filling janlishuk-upload.Asked janlishuk-upload.Learnt (λ κs r (after, (base, (zone, left))). record { answer = r; lists = contents left }) (record {
+      promised = λ κs (file, (base, (zone, lent))) r (after, (b, (z, left))). Uploads (file .now) (after .now) base zone (contents lent) (contents left) r;
+      order = λ κs (file, (base, (zone, lent))). ofUpload (file .now) base zone (contents lent);
+      shown = λ κs (file, (base, (zone, lent))). uploadShown (contents lent);
       Unwritten = λ κs (file, (base, (zone, lent))) x. x .0 .now ≡ file .now;
-      outcome = λ κs (file, (base, (zone, lent))). upload (file .now) base zone (held lent);
-      shape = λ κs (file, (base, (zone, lent))). upload-shape (held lent);
+      outcome = λ κs (file, (base, (zone, lent))). upload (file .now) base zone (contents lent);
+      shape = λ κs (file, (base, (zone, lent))). upload-shape (contents lent);
       asks = λ κs a. tt;
       promises = λ κs a r x h. h;
       keeps = λ κs a r x h. (λ k. record { answer = h .0 .answer k; lists = h .0 .lists k }, h .1);
-      ordered = λ κs (file, (base, (zone, lent))). upload-order (file .now) base zone (held lent);
+      ordered = λ κs (file, (base, (zone, lent))). upload-order (file .now) base zone (contents lent);
     })
 
 -- `record`: 1 to 5. It has no number: the part is empty exactly when a refusal holds or the rectangle is not covered.
@@ -367,3 +367,46 @@ module _ (κs : read-call .call .K) (a : read-call .call .A κs) (r : ReadAnswer
         never-writes = meets .never-writes κs a r x told;
         once = λ s y h. meets .once κs a r s x y told h;
       }
+
+-- Demand 1 written out for `janlishuk_upload`, in the caller's own five lists: as they were lent, and as they are left.
+module _ (κs : upload-call .call .K) (a : upload-call .call .A κs) where
+  abbrev lent : Lists
+  lent =
+      let five = a .1 .1 .1 in
+      record {
+        eastings = five .0 .now;
+        northings = five .1 .0 .now;
+        heights = five .1 .1 .0 .now;
+        codes = five .1 .1 .1 .0 .now;
+        refusals = five .1 .1 .1 .1 .0 .now;
+      }
+
+  abbrev left : upload-call .call .S κs → Lists
+  left x =
+      let five = x .1 .1 .1 in
+      record {
+        eastings = five .0 .now;
+        northings = five .1 .0 .now;
+        heights = five .1 .1 .0 .now;
+        codes = five .1 .1 .1 .0 .now;
+        refusals = five .1 .1 .1 .1 .0 .now;
+      }
+
+  module _ (r : UploadAnswer) (x : upload-call .call .S κs) (told : janlishuk-upload.Learnt κs a r x) where
+    pub record UploadWrittenOut : Type 0 where
+      pub promise : Uploads (a .0 .now) (x .0 .now) (a .1 .0) (a .1 .1 .0) lent (left x) r
+      pub answers-or-refuses : FirstOf (ofUpload (a .0 .now) (a .1 .0) (a .1 .1 .0) lent) (r .refusal) (r .place)
+      pub carries-only : (r .refusal ≡ 0 → ⊥) → left x ≡ lent
+      pub never-writes : x .0 .now ≡ a .0 .now
+      pub once : (s : UploadAnswer) (y : upload-call .call .S κs) → janlishuk-upload.Learnt κs a s y → (r ≡ s) × (left x ≡ left y)
+
+    pub upload-written-out : UploadWrittenOut
+    upload-written-out =
+        let d = upload-call .meets in
+        record {
+          promise = d .keeps-promise κs a r x told;
+          answers-or-refuses = d .answers-or-refuses κs a r x told;
+          carries-only = λ n. ap (λ (v : Surveyed). v .lists) (d .carries-only κs a r x told n);
+          never-writes = d .never-writes κs a r x told;
+          once = λ s y h. let same = d .once κs a r s x y told h in (ap (λ (v : Surveyed). v .answer) same, ap (λ (v : Surveyed). v .lists) same);
+        }

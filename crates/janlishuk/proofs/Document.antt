@@ -2,7 +2,7 @@
 -- which bytes a position is, when a file passes, when a rectangle is not covered, which bases and zones are named, when the lists of a survey fit and which
 -- points they hold, and the numbers of each call in their order. They are stated in bytes and numbers, so that no definition can be wrong in the same way as
 -- the program. Assumes nothing.
-use mathlib.Core.Path.{_≡_, refl, sym, _∙_, ap}
+use mathlib.Core.Path.{_≡_, refl, _∙_, ap}
 use mathlib.Core.Logic.{_⊎_, inl, inr, _↔_}
 use mathlib.Core.Bool.{true, false}
 use mathlib.Core.List.{List, [], _∷_, _++_}
@@ -20,8 +20,8 @@ use Rattle.index.specs.Index.{position, Passes}
 use Rattle.terrain.specs.Record.{entry, taken, Uncovered}
 use Rattle.terrain.specs.declared.record.Taken.{Taken}
 use Rattle.terrain.proofs.Laws.Taken.{taken-own, uncovered-is}
-use Rattle.survey.specs.Survey.{Lists, mostPoints, points, pointAt, Unfit}
-use Rattle.survey.proofs.Laws.Lists.{most-points-is, fits-exactly}
+use Rattle.survey.specs.Survey.{Lists, fiveLists, mostPoints, pointCount, pointAt, Unfit}
+use Rattle.survey.proofs.Laws.Lists.{most-points-is, count-is, point-is, lists-is, ListsFit, fits-exactly}
 use Rattle.path.specs.Path.{Q, N, pathOf, sample, farthest, tallest}
 use Rattle.path.proofs.Laws.Path.{farthest-is}
 use Rattle.janlishuk.specs.Order.{Line, FirstOf, placed, ofFile, ofName, ofNorthing, ofPoint, ofEnds, ofMasts, ofRow, ofSamples, ofPairs, ofReading, ofUpload, ofTaking, ofProfile, ofVerdict, ofPlan, ofEngineRow}
@@ -176,27 +176,21 @@ named-bounds = (refl, refl, refl, refl, refl, refl, refl, refl)
 pub named-numbers : (farthest ≡ 10000000000) × (tallest ≡ 100) × (mostPoints ≡ 256)
 named-numbers = (farthest-is, refl, most-points-is)
 
+-- five lent lists as one value, each under its own name
+pub lent-lists : (e n h c r : List ℕ) → fiveLists e n h c r ≡ record { eastings = e; northings = n; heights = h; codes = c; refusals = r }
+lent-lists = lists-is
+
 -- Document 02, request a): "up to 256 points, in two lent lists of eastings and northings in the file's zone".
 module _ (l : Lists) where
+  pub survey-count : pointCount l ≡ length (l .eastings)
+  survey-count = count-is l
+
   pub survey-point : (z i : ℕ) → pointAt z l i ≡ record { zone = z; easting = metres (getD (l .eastings) i 0); northing = metres (getD (l .northings) i 0) }
-  survey-point z i = refl
+  survey-point z i = point-is z l i
 
   -- 10 does not hold exactly where the two lists of points have one length, of at most 256, and none of the others is shorter
-  pub record ListsFit : Type 0 where
-    pub points : length (l .eastings) ≡ length (l .northings)
-    pub most : length (l .eastings) ≤ 256
-    pub heights : length (l .eastings) ≤ length (l .heights)
-    pub codes : length (l .eastings) ≤ length (l .codes)
-    pub refusals : length (l .eastings) ≤ length (l .refusals)
-
-  pub unfit-means : (Unfit l → ⊥) ↔ ListsFit
-  unfit-means =
-      let law = fits-exactly l in (
-        (λ n.
-            let f = law .0 n in
-            record { points = sym (f .northings); most = f .most; heights = f .heights; codes = f .codes; refusals = f .refusals }),
-        λ f. law .1 (record { northings = sym (f .points); most = f .most; heights = f .heights; codes = f .codes; refusals = f .refusals }),
-      )
+  pub unfit-means : (Unfit l → ⊥) ↔ ListsFit l
+  unfit-means = fits-exactly l
 
 -- the numbers of lines, in their order
 abbrev numbers : List Line → List ℕ

@@ -1,26 +1,27 @@
 -- Document 02, request a), sentence by sentence, and demand 2 of each point of a survey, in the caller's own fields: whatever meets the promise of an upload
 -- (specs/Promise), it is as requested. From the laws of the survey, of the order of checks and of demand 2. Assumes nothing.
 use mathlib.Core.Path.{_≡_, refl, _∙_, ap}
-use mathlib.Core.Logic.{_↔_}
+use mathlib.Core.Logic.{_↔_, inl, inr}
 use mathlib.Core.List.{List}
 use Prim.Native.Nat.{ℕ, _<_}
-use lib.ListN.{getD}
+use lib.ListN.{length, getD}
 use Rattle.ground.specs.Outcome.{Outcome, given, refused, refusalNumber, refusalPlace, filledBy}
 use Rattle.ground.specs.Boundary.{rows}
 use Rattle.ground.specs.declared.point.Point.{Point}
 use Rattle.ground.proofs.Laws.Outcome.{refused-is}
+use Rattle.terrain.specs.Check.{checked}
 use Rattle.terrain.specs.declared.check.CheckAnswer.{CheckAnswer}
 use Rattle.reading.specs.Reading.{reading, readAnswer}
 use Rattle.reading.specs.Demand.{Readable, IsMean}
-use Rattle.survey.specs.Survey.{Lists, points, pointAt, withAnswers, entryOf, upload}
+use Rattle.survey.specs.Survey.{Lists, pointCount, pointAt, withAnswers, answerOf, upload}
 use Rattle.survey.specs.declared.UploadAnswer.{UploadAnswer}
-use Rattle.survey.proofs.Laws.Lists.{all-long, entry-at, after-last}
-use Rattle.survey.proofs.Laws.Survey.{IsUpload, upload-is}
-use Rattle.janlishuk.specs.Order.{FirstOf, OnGround, placed, ofPoint}
+use Rattle.survey.proofs.Laws.Lists.{ListsFit, fit-passes, unfit-found, all-long, entry-at, after-last}
+use Rattle.survey.proofs.Laws.Survey.{file-refused, lists-refused, lists-given, IsUpload, upload-is}
+use Rattle.janlishuk.specs.Order.{FirstOf, OnGround, placed, ofPoint, ofUpload}
 use Rattle.janlishuk.specs.Promise.{Checks, Uploads}
 use Rattle.janlishuk.specs.Demand.{EntryIs, EntryStays, FollowsReadings}
 use Rattle.janlishuk.proofs.Laws.Line.{first-of, was-given}
-use Rattle.janlishuk.proofs.Laws.Order.{point-order, upload-order}
+use Rattle.janlishuk.proofs.Laws.Order.{file-order, point-order, upload-order}
 use Rattle.janlishuk.proofs.Demand2.{read-exactly, reading-is-mean}
 
 module _ (file after : List ℕ) (b z : ℕ) (lent left : Lists) (u : UploadAnswer) (uploads : Uploads file after b z lent left u) where
@@ -36,18 +37,18 @@ module _ (file after : List ℕ) (b z : ℕ) (lent left : Lists) (u : UploadAnsw
     given-is : IsUpload file b z lent (gave .0)
     given-is = upload-is file b z lent (gave .0) (gave .1)
 
-    whole : left ≡ withAnswers (entryOf file b z lent) lent (points lent)
+    whole : left ≡ withAnswers (answerOf file b z lent) lent (pointCount lent)
     whole = uploads .0 .lists ∙ ap (filledBy lent) (gave .1) ∙ given-is .is
 
     -- each entry is what `janlishuk_read` answers for its point
-    at-entry : (i d : ℕ) → i < points lent → EntryIs left i d (entryOf file b z lent i)
+    at-entry : (i d : ℕ) → i < length (lent .eastings) → EntryIs left i d (answerOf file b z lent i)
     at-entry i d own =
         let fit = given-is .fit in
-        let read = entryOf file b z lent in
+        let read = answerOf file b z lent in
         rw whole (record {
-          height = entry-at (λ k. read k .height) (lent .heights) (points lent) i d (fit .heights) own;
-          code = entry-at (λ k. read k .code) (lent .codes) (points lent) i d (fit .codes) own;
-          refusal = entry-at (λ k. read k .refusal) (lent .refusals) (points lent) i d (fit .refusals) own;
+          height = entry-at (λ k. read k .height) (lent .heights) (pointCount lent) i d (fit .heights) own;
+          code = entry-at (λ k. read k .code) (lent .codes) (pointCount lent) i d (fit .codes) own;
+          refusal = entry-at (λ k. read k .refusal) (lent .refusals) (pointCount lent) i d (fit .refusals) own;
         })
 
     -- the number of a point's refusal is that of the first of its conditions to hold
@@ -62,8 +63,8 @@ module _ (file after : List ℕ) (b z : ℕ) (lent left : Lists) (u : UploadAnsw
 
     pub upload-follows : FollowsReadings file after b z lent left
     upload-follows =
-        let read = entryOf file b z lent in
-        let long = all-long read lent (points lent) in
+        let read = answerOf file b z lent in
+        let long = all-long read lent (pointCount lent) in
         record {
           entry = λ i d own r h. rw (h .0) (at-entry i d own);
           number = λ i d own r h. rw (h .0, at-entry i d own .refusal) (in-order (pointAt z lent i));
@@ -72,19 +73,53 @@ module _ (file after : List ℕ) (b z : ℕ) (lent left : Lists) (u : UploadAnsw
               rw (e .height, e .code) (bare (reading file b z (pointAt z lent i)) (rw (e .refusal) at n));
           rest = λ i d l.
               rw whole (record {
-                height = after-last (λ k. read k .height) (lent .heights) (points lent) i d l;
-                code = after-last (λ k. read k .code) (lent .codes) (points lent) i d l;
-                refusal = after-last (λ k. read k .refusal) (lent .refusals) (points lent) i d l;
+                height = after-last (λ k. read k .height) (lent .heights) (pointCount lent) i d l;
+                code = after-last (λ k. read k .code) (lent .codes) (pointCount lent) i d l;
+                refusal = after-last (λ k. read k .refusal) (lent .refusals) (pointCount lent) i d l;
               });
           long = rw whole (long .heights, (long .codes, long .refusals));
-          points = rw whole (long .points);
+          pointsStay = rw whole (long .pointsStay);
         }
+
+-- "Refusals: 1, 2, 3, then 10 when the two lists of points differ in length or hold over 256, or another list is shorter", in numbers:
+module _ (file after : List ℕ) (b z : ℕ) (c : CheckAnswer) (checks : Checks file after b z c)
+    (lent left : Lists) (u : UploadAnswer) (uploads : Uploads file after b z lent left u) where
+  -- a file that the check refuses is refused with the check's number
+  pub file-first : (c .refusal ≡ 0 → ⊥) → u .refusal ≡ c .refusal
+  file-first n =
+      let e = refused-is (checked file b z) (rw (checks .0) at n) in
+      rw (uploads .0 .answer, checks .0) (ap refusalNumber (file-refused file b z lent e))
+
+  -- of a file that passes, lists that do not fit are refused with 10
+  pub unfit-ten : c .refusal ≡ 0 → (ListsFit lent → ⊥) → u .refusal ≡ 10
+  unfit-ten p n =
+      let t = was-given (file-order file b z) (rw (checks .0) at p) in
+      let found = unfit-found lent n in
+      rw (uploads .0 .answer) (ap refusalNumber (lists-refused file b z lent (t .1) found))
+
+  -- of a file that passes, lists that fit are read
+  pub fit-given : c .refusal ≡ 0 → ListsFit lent → u .refusal ≡ 0
+  fit-given p fit =
+      let t = was-given (file-order file b z) (rw (checks .0) at p) in
+      let passes = fit-passes lent fit in
+      rw (uploads .0 .answer) (ap refusalNumber (lists-given file b z lent (t .1) passes))
+
+  -- no number of an upload is met at a sample
+  pub place-is-0 : u .place ≡ 0
+  place-is-0 = rw (uploads .0 .answer) (go _ _ (first-of (upload-order file b z lent)))
+    where
+      go : (number place : ℕ) → FirstOf (ofUpload file b z lent) number place → place ≡ 0
+      go number place (inl h) = h .1 .1
+      go number place (inr (_, inl h)) = h .1 .1
+      go number place (inr (_, inr (_, inl h))) = h .1 .1
+      go number place (inr (_, inr (_, inr (_, inl h)))) = h .1 .1
+      go number place (inr (_, inr (_, inr (_, inr (_, h))))) = h .1
 
 -- Demand 2, of each point of a survey. In a file that passes the check, a point on its ground:
 module _ (file after : List ℕ) (b z : ℕ) (c : CheckAnswer) (checks : Checks file after b z c) (passes : c .refusal ≡ 0)
     (lent left : Lists) (u : UploadAnswer) (uploads : Uploads file after b z lent left u) (is : u .refusal ≡ 0)
-    (i : ℕ) (own : i < points lent) (on : OnGround b z (pointAt z lent i)) where
-  at : EntryIs left i 0 (entryOf file b z lent i)
+    (i : ℕ) (own : i < length (lent .eastings)) (on : OnGround b z (pointAt z lent i)) where
+  at : EntryIs left i 0 (answerOf file b z lent i)
   at = at-entry file after b z lent left u uploads is i 0 own
 
   -- "is read exactly when its rectangle is covered and no corner that weighs in lacks a height."

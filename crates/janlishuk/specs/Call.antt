@@ -27,8 +27,8 @@ use Rattle.plan.specs.declared.PlanAnswer.{PlanAnswer}
 use Rattle.janlishuk.specs.declared.point.EngineAnswer.{EngineAnswer}
 use Rattle.janlishuk.specs.Order.{Line, FirstOf, SomeOf}
 
--- How a result shows a refusal: by its number and place, where `bare` is the result that has these and 0 in all else; or, where it is a part of the file
--- and has no number, by being empty.
+-- How what a caller has of a call shows a refusal: by its number and place, where `bare` has these, 0 in all other fields, and in lent lists what they
+-- held; or, where it is a part of the file and has no number, by being empty.
 pub data Shown (R : Type 0) : Type 0 where
   byNumber : (refusal place : R → ℕ) → (bare : ℕ → ℕ → R) → Shown R
   byPart : (part : R → RefT (List ℕ)) → Shown R

@@ -13,7 +13,7 @@ use Rattle.ground.specs.declared.point.Point.{Point}
 use Rattle.terrain.specs.Record.{entry, taken, rectangleOf}
 use Rattle.terrain.specs.declared.record.Taken.{Taken}
 use Rattle.reading.specs.declared.point.ReadAnswer.{ReadAnswer}
-use Rattle.survey.specs.Survey.{Lists, points, pointAt}
+use Rattle.survey.specs.Survey.{Lists, pointAt}
 use Rattle.path.specs.Path.{Q, IsN}
 use Rattle.profile.specs.declared.ProfileAnswer.{ProfileAnswer}
 use Rattle.masts.specs.Clear.{roundedUp}
@@ -99,16 +99,17 @@ pub record EntryStays (before after : Lists) (i d : ℕ) : Type 0 where
 -- document 02, request a): what the lists that were lent hold after an upload that is given
 pub record FollowsReadings (file after : List ℕ) (b z : ℕ) (lent left : Lists) : Type 0 where
   -- "each entry just what the single reading gives", for that point in the file's zone
-  pub entry : (i d : ℕ) → i < points lent → (r : ReadAnswer) → Reads file after b z (pointAt z lent i) r → EntryIs left i d r
+  pub entry : (i d : ℕ) → i < length (lent .eastings) → (r : ReadAnswer) → Reads file after b z (pointAt z lent i) r → EntryIs left i d r
   -- "refusal numbers (0 for a point that is read)": 4, 5, 6 of the point, in that order
-  pub number : (i d : ℕ) → i < points lent → (r : ReadAnswer) → Reads file after b z (pointAt z lent i) r
+  pub number : (i d : ℕ) → i < length (lent .eastings) → (r : ReadAnswer) → Reads file after b z (pointAt z lent i) r
       → FirstOf (ofPoint file b z 0 (pointAt z lent i)) (getD (left .refusals) i d) (r .place)
   -- "A refused point has height and code 0."
-  pub refused : (i d : ℕ) → i < points lent → (getD (left .refusals) i d ≡ 0 → ⊥) → (getD (left .heights) i d ≡ 0) × (getD (left .codes) i d ≡ 0)
+  pub refused : (i d : ℕ) → i < length (lent .eastings) → (getD (left .refusals) i d ≡ 0 → ⊥)
+      → (getD (left .heights) i d ≡ 0) × (getD (left .codes) i d ≡ 0)
   -- "entries after the last point keep their content", and no list changes its length
-  pub rest : (i d : ℕ) → points lent ≤ i → EntryStays lent left i d
+  pub rest : (i d : ℕ) → length (lent .eastings) ≤ i → EntryStays lent left i d
   pub long :
       (length (left .heights) ≡ length (lent .heights))
       × ((length (left .codes) ≡ length (lent .codes)) × (length (left .refusals) ≡ length (lent .refusals)))
-  -- and the points stay
-  pub points : (left .eastings ≡ lent .eastings) × (left .northings ≡ lent .northings)
+  -- the two lists of points hold what they held
+  pub pointsStay : (left .eastings ≡ lent .eastings) × (left .northings ≡ lent .northings)

@@ -3,7 +3,7 @@
 --     Promise      what each public call promises
 --     Order        the numbers of each call in its order of checks, with their conditions
 --     Call         demand 1, of any public call, and how each answer shows a refusal
---     Demand       demands 2 and 3, in the caller's own fields
+--     Demand       demands 2 and 3 in the caller's own fields, and what the lists of an upload hold
 --     Figure       document 01's checked figures P1 to P12, as one list
 pub mod Engine
 pub mod Promise

@@ -1,5 +1,5 @@
--- What each public call promises of its answer r, for all bytes and all numbers: what the crates' definitions give for what it was asked with, and that
--- the lent file holds after the call what it held before. Assumes nothing.
+-- What each public call promises of its answer r, for all bytes and all numbers: what the crates' definitions give for what it was asked with, what lent
+-- lists hold after the call, and that the lent file holds after it what it held before. Assumes nothing.
 use mathlib.Core.Path.{_≡_}
 use mathlib.Core.List.{List}
 use Prim.Native.Nat.{ℕ}

@@ -1,5 +1,5 @@
 // The call on a survey: the upload of many points of a file.
-ghost use Rattle.survey.specs.Survey.{lists};
+ghost use Rattle.survey.specs.Survey.{fiveLists};
 ghost use Rattle.janlishuk.specs.Promise.{Uploads};
 use survey::UploadAnswer;
 
@@ -17,8 +17,8 @@ pub extern "C" fn janlishuk_upload(
     refusals: &mut [u8],
 ) -> UploadAnswer
     ensures { λ r. ⌜ Uploads (now (file .entry)) (now (file .exit)) base zone
-        (lists (now (eastings .entry)) (now (northings .entry)) (now (heights .entry)) (now (codes .entry)) (now (refusals .entry)))
-        (lists (now (eastings .exit)) (now (northings .exit)) (now (heights .exit)) (now (codes .exit)) (now (refusals .exit)))
+        (fiveLists (now (eastings .entry)) (now (northings .entry)) (now (heights .entry)) (now (codes .entry)) (now (refusals .entry)))
+        (fiveLists (now (eastings .exit)) (now (northings .exit)) (now (heights .exit)) (now (codes .exit)) (now (refusals .exit)))
         r ⌝ }
 {
     survey::upload(

@@ -24,8 +24,8 @@ pub record Lists : Type 0 where
   pub refusals : List ℕ
 
 -- five lists as one value
-abbrev pub lists : (eastings northings heights codes refusals : List ℕ) → Lists
-lists eastings northings heights codes refusals =
+abbrev pub fiveLists : (eastings northings heights codes refusals : List ℕ) → Lists
+fiveLists eastings northings heights codes refusals =
     record { eastings = eastings; northings = northings; heights = heights; codes = codes; refusals = refusals }
 
 -- "up to 256 points"
@@ -33,8 +33,8 @@ abbrev pub mostPoints : ℕ
 mostPoints = 256
 
 -- how many points there are
-abbrev pub points : Lists → ℕ
-points l = length (l .eastings)
+abbrev pub pointCount : Lists → ℕ
+pointCount l = length (l .eastings)
 
 -- point i of two lists, in zone z
 abbrev pub pointOf : ℕ → (eastings northings : List ℕ) → ℕ → Point
@@ -47,17 +47,17 @@ pointAt z l i = pointOf z (l .eastings) (l .northings) i
 -- 10: "the two lists of points differ in length or hold over 256, or another list is shorter"
 abbrev pub Unfit : Lists → Type 0
 Unfit l =
-    (length (l .northings) ≡ points l → ⊥)
-    ⊎ ((mostPoints < points l) ⊎ ((length (l .heights) < points l) ⊎ ((length (l .codes) < points l) ⊎ (length (l .refusals) < points l))))
+    (length (l .northings) ≡ pointCount l → ⊥)
+    ⊎ ((mostPoints < pointCount l) ⊎ ((length (l .heights) < pointCount l) ⊎ ((length (l .codes) < pointCount l) ⊎ (length (l .refusals) < pointCount l))))
 
--- the same as a test on the five lengths
+-- whether lists of these five lengths do not fit
 abbrev pub unfitLengths : (eastings northings heights codes refusals : ℕ) → Bool
 unfitLengths eastings northings heights codes refusals =
     not (eqb northings eastings) || (ltb mostPoints eastings || (ltb heights eastings || (ltb codes eastings || ltb refusals eastings)))
 
--- the same as a test on the lists
+-- whether the lists do not fit: the test of 10
 unfoldable pub unfit : Lists → Bool
-unfit l = unfitLengths (points l) (length (l .northings)) (length (l .heights)) (length (l .codes)) (length (l .refusals))
+unfit l = unfitLengths (pointCount l) (length (l .northings)) (length (l .heights)) (length (l .codes)) (length (l .refusals))
 
 -- a list with its first k entries written, each with what is given for it; all other entries keep their content
 unfoldable pub written : (ℕ → ℕ) → List ℕ → (k : ℕ) → List ℕ
@@ -76,8 +76,8 @@ withAnswers answer l k =
     }
 
 -- what an entry holds: "just what the single reading gives"
-abbrev pub entryOf : List ℕ → ℕ → ℕ → Lists → ℕ → ReadAnswer
-entryOf file b z l i = readAnswer (reading file b z (pointAt z l i))
+abbrev pub answerOf : List ℕ → ℕ → ℕ → Lists → ℕ → ReadAnswer
+answerOf file b z l i = readAnswer (reading file b z (pointAt z l i))
 
 -- 1, 2, 3 for the file, then 10 where the lists do not fit, else the file that passed
 abbrev pub admitted : List ℕ → ℕ → ℕ → (unfit : Bool) → Outcome Terrain
@@ -85,7 +85,7 @@ admitted file b z unfit = checked file b z andThen λ t. unless unfit 10 (given 
 
 -- the upload: 1, 2, 3 or 10, else what the lists hold afterwards
 unfoldable pub upload : List ℕ → ℕ → ℕ → Lists → Outcome Lists
-upload file b z l = admitted file b z (unfit l) andThen λ t. given (withAnswers (entryOf file b z l) l (points l))
+upload file b z l = admitted file b z (unfit l) andThen λ t. given (withAnswers (answerOf file b z l) l (pointCount l))
 
 -- the answer of `janlishuk_upload` as the caller gets it
 abbrev pub uploadAnswer : Outcome Lists → UploadAnswer

@@ -1,9 +1,10 @@
 // The survey: up to 256 points of a file, read in one call into three lists that the caller lends.
 ghost use mathlib.Core.Path.{_≡_};
+ghost use mathlib.Core.Bool.{false};
 ghost use lib.ListN.{set};
 ghost use Rattle.terrain.specs.Check.{Gave, checkedMeans};
-ghost use Rattle.survey.specs.Survey.{lists, pointOf, unfitLengths, admitted, Uploaded};
-ghost use Rattle.survey.specs.Inside.{IsPoint, HasEntry, InBytes, Fit, HasAnswers};
+ghost use Rattle.survey.specs.Survey.{fiveLists, pointOf, unfitLengths, unfit, admitted, Uploaded};
+ghost use Rattle.survey.specs.Inside.{IsPoint, HasEntry, InBytes, HasAnswers};
 use ground::measure::Metres;
 use ground::point::Point;
 use reading::point::ReadAnswer;
@@ -88,10 +89,10 @@ fn read_each(
     codes: &mut [u8],
     refusals: &mut [u8],
 )
-    requires { ⌜ Gave (now file) terrain × Fit (lists (now eastings) (now northings) (now heights) (now codes) (now refusals)) ⌝ }
+    requires { ⌜ Gave (now file) terrain × (unfit (fiveLists (now eastings) (now northings) (now heights) (now codes) (now refusals)) ≡ false) ⌝ }
     ensures { λ r. ⌜ HasAnswers (now (file .entry)) terrain
-        (lists (now (eastings .entry)) (now (northings .entry)) (now (heights .entry)) (now (codes .entry)) (now (refusals .entry)))
-        (lists (now (eastings .exit)) (now (northings .exit)) (now (heights .exit)) (now (codes .exit)) (now (refusals .exit))) ⌝ }
+        (fiveLists (now (eastings .entry)) (now (northings .entry)) (now (heights .entry)) (now (codes .entry)) (now (refusals .entry)))
+        (fiveLists (now (eastings .exit)) (now (northings .exit)) (now (heights .exit)) (now (codes .exit)) (now (refusals .exit))) ⌝ }
 {
     let ground = terrain.ground;
     for i in 0..eastings.len() {
@@ -113,8 +114,8 @@ pub fn upload(
     refusals: &mut [u8],
 ) -> UploadAnswer
     ensures { λ r. ⌜ Uploaded (now (file .entry)) base zone
-        (lists (now (eastings .entry)) (now (northings .entry)) (now (heights .entry)) (now (codes .entry)) (now (refusals .entry)))
-        (lists (now (eastings .exit)) (now (northings .exit)) (now (heights .exit)) (now (codes .exit)) (now (refusals .exit)))
+        (fiveLists (now (eastings .entry)) (now (northings .entry)) (now (heights .entry)) (now (codes .entry)) (now (refusals .entry)))
+        (fiveLists (now (eastings .exit)) (now (northings .exit)) (now (heights .exit)) (now (codes .exit)) (now (refusals .exit)))
         r ⌝ }
 {
     let unfit = are_unfit(

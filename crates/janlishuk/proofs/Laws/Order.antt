@@ -1,4 +1,4 @@
--- The definitions that the promises cite refuse in document 01's order of checks, each number for its condition in the document's words. From the laws of the
+-- The definitions that the promises cite refuse in the documents' order of checks, each number for its condition in their words. From the laws of the
 -- crates, which say what their tests mean, and of lines. Assumes nothing.
 use mathlib.Core.Path.{_≡_, sym, _∙_, ap}
 use mathlib.Core.Logic.{_⊎_, inl, inr, ⊎-elim, _↔_}
@@ -34,7 +34,7 @@ use Rattle.terrain.proofs.Laws.Checked.{checked-is}
 use Rattle.terrain.proofs.Laws.Taken.{taken-or-5, taken-is, place-is}
 use Rattle.reading.specs.Reading.{readCorners, readTaken, pointIn, reading}
 use Rattle.reading.proofs.Laws.Reading.{some-lacks}
-use Rattle.survey.specs.Survey.{Lists, points, unfit, withAnswers, entryOf, upload}
+use Rattle.survey.specs.Survey.{Lists, pointCount, unfit, withAnswers, answerOf, upload}
 use Rattle.survey.proofs.Laws.Lists.{unfit-is}
 use Rattle.path.specs.Path.{Q, N, asking, askMasts, pathOf, sample, farthest, overAsked, pathOn}
 use Rattle.path.proofs.Laws.Path.{path-is}
@@ -153,11 +153,11 @@ module _ (file : List ℕ) (b z : ℕ) (p : Point) where
   unfolding reading
   reading-order = after (λ t. pointIn file t p) (file-order file b z) λ t e. point-order file b z t e p
 
--- a survey is read in that order
+-- an upload is refused in the order 1, 2, 3, 10
 pub upload-order : (file : List ℕ) (b z : ℕ) (l : Lists) → InOrder (ofUpload file b z l) (upload file b z l)
 unfolding upload
 upload-order file b z l =
-    giving (λ t. withAnswers (entryOf file b z l) l (points l))
+    giving (λ t. withAnswers (answerOf file b z l) l (pointCount l))
     (after _ (file-order file b z) λ t e. where-so (unfit l) (unfit-is l) 10 (lit≤ tt) λ n. gave t)
 
 -- 4, 4, 7 of the ends of a path, then what the call has for 8

@@ -23,25 +23,25 @@ use Rattle.reading.specs.Vote.{vote}
 use Rattle.reading.specs.Reading.{readCorners, readTaken, pointIn, reading, readAnswer}
 use Rattle.reading.specs.declared.point.Reading.{Reading}
 use Rattle.reading.proofs.Laws.Reading.{read-within}
-use Rattle.survey.specs.Survey.{Lists, points, unfit, withAnswers, entryOf, admitted, upload, Uploaded}
-use Rattle.survey.specs.Inside.{InBytes, entryIn, HasAnswers}
-use Rattle.survey.proofs.Laws.Lists.{Fits, fits}
+use Rattle.survey.specs.Survey.{Lists, pointCount, unfit, withAnswers, answerOf, admitted, upload, Uploaded}
+use Rattle.survey.specs.Inside.{InBytes, answerIn, HasAnswers}
+use Rattle.survey.proofs.Laws.Lists.{ListsFit, fits}
 
 -- a refusal's number is at most 6
 abbrev AtMost6 : {A : Type 0} → Outcome A → Type 0
 AtMost6 o = refusalNumber o ≤ 6
 
--- of a test with such a number
+-- a test that refuses with a number of at most 6
 test-most : {A : Type 0} (t : Bool) (number : ℕ) (a : A) → number ≤ 6 → AtMost6 (unless t number (given a))
 test-most true number a h = h
 test-most false number a h = lit≤ tt
 
--- of two such steps
+-- two steps whose refusals are at most 6
 steps-most : {A B : Type 0} (o : Outcome A) (f : A → Outcome B) → AtMost6 o → ((a : A) → AtMost6 (f a)) → AtMost6 (o andThen f)
 steps-most (given a) f h m = m a
 steps-most (refused number place) f h m = h
 
--- of a point of a checked file
+-- the refusal of a point of a checked file is at most 6
 refusal-most : (file : List ℕ) (t : Terrain) (p : Point) → refusalNumber (pointIn file t p) ≤ 6
 unfolding pointIn recordIn readTaken readCorners
 refusal-most file t p =
@@ -61,41 +61,58 @@ in-bytes {file} {t} p g = (go (pointIn file t p) refl, omega (arith, refusal-mos
     go (refused number place) e = lit≤ tt
 
 -- in a file that passed, each entry is the single reading's
-pub entry-is : (file : List ℕ) (b z : ℕ) (t : Terrain) → checked file b z ≡ given t → (l : Lists) (i : ℕ) → entryIn file t l i ≡ entryOf file b z l i
+pub entry-is : (file : List ℕ) (b z : ℕ) (t : Terrain) → checked file b z ≡ given t → (l : Lists) (i : ℕ) → answerIn file t l i ≡ answerOf file b z l i
 unfolding reading
 entry-is file b z t c l i = simp (c, checked-is file b z t c .opened .is)
 
--- What an upload leaves, from what admitting the file and the lists came to:
+-- What an upload comes to:
 module _ (file : List ℕ) (b z : ℕ) (l : Lists) where
-  -- a refusal
+  -- the file's own refusal
+  pub file-refused : {number place : ℕ} → checked file b z ≡ refused number place → upload file b z l ≡ refused number place
+  unfolding upload
+  file-refused e = simp e
+
+  -- of a file that passes, 10 for lists that do not fit
+  pub lists-refused : {t : Terrain} → checked file b z ≡ given t → unfit l ≡ true → upload file b z l ≡ refused 10 0
+  unfolding upload
+  lists-refused e f = simp (e, f)
+
+  -- of a file that passes, the lists with the answers where they fit
+  pub lists-given : {t : Terrain} → checked file b z ≡ given t → unfit l ≡ false
+      → upload file b z l ≡ given (withAnswers (answerOf file b z l) l (pointCount l))
+  unfolding upload
+  lists-given e f = simp (e, f)
+
+  -- an upload that is refused leaves the lists as they were
   pub upload-refused : {number : ℕ} → admitted file b z (unfit l) ≡ refused number 0 → Uploaded file b z l l (record { refusal = number; place = 0 })
   unfolding upload
   upload-refused e = record { answer = simp e; lists = simp e }
 
-  -- the file that passed, and the lists that fit
+  -- where file and lists are admitted, the file passed and the lists fit
   pub admitted-is : {t : Terrain} → admitted file b z (unfit l) ≡ given t → (checked file b z ≡ given t) × (unfit l ≡ false)
   admitted-is {t} e =
       let s = step (checked file b z) _ t e in
       let p = past (unfit l) 10 _ t (s .then) in
       (s .gave ∙ p .1, p .0)
 
-  -- the lists with the answers to all points
+  -- an upload that is given leaves the answers to all points
   pub upload-given : {t : Terrain} {m : Lists} → admitted file b z (unfit l) ≡ given t → HasAnswers file t l m
       → Uploaded file b z l m (record { refusal = 0; place = 0 })
   unfolding upload
   upload-given {t} {m} e has =
       record {
         answer = simp e;
-        lists = simp e (has ∙ λ k. withAnswers (λ i. entry-is file b z t (admitted-is e .0) l i k) l (points l));
+        lists = simp e (has ∙ λ k. withAnswers (λ i. entry-is file b z t (admitted-is e .0) l i k) l (pointCount l));
       }
 
 -- an upload that is given: the file passed, the lists fit, and they hold the answers to all points
 pub record IsUpload (file : List ℕ) (b z : ℕ) (l m : Lists) : Type 0 where
   pub terrain : Terrain
   pub checked : checked file b z ≡ given terrain
-  pub fit : Fits l
-  pub is : m ≡ withAnswers (entryOf file b z l) l (points l)
+  pub fit : ListsFit l
+  pub is : m ≡ withAnswers (answerOf file b z l) l (pointCount l)
 
+-- an upload that is given is what `IsUpload` says
 pub upload-is : (file : List ℕ) (b z : ℕ) (l m : Lists) → upload file b z l ≡ given m → IsUpload file b z l m
 unfolding upload
 upload-is file b z l m e =

@@ -7,17 +7,17 @@ use lib.ListN.{length}
 use borrow.Author.Needs.{needs}
 use Rattle.reading.specs.Reading.{readAnswer}
 use Rattle.reading.specs.declared.point.ReadAnswer.{ReadAnswer}
-use Rattle.survey.specs.Survey.{Lists, lists, written, withAnswers}
-use Rattle.survey.specs.Inside.{HasEntry, entryIn}
-use Rattle.survey.proofs.Laws.Lists.{Fits, fits, AsLong, all-long, one-answer-more}
+use Rattle.survey.specs.Survey.{Lists, fiveLists, written, withAnswers}
+use Rattle.survey.specs.Inside.{HasEntry, answerIn}
+use Rattle.survey.proofs.Laws.Lists.{ListsFit, fits, AsLong, all-long, one-answer-more}
 use Rattle.survey.proofs.Laws.Survey.{in-bytes}
 use Rattle.survey.proofs.read_each.Statement.{statement}
 use Rattle.survey.proofs.read_each.Tie as tie
 
 abbrev Inv-loop : tie.InvT-loop
 Inv-loop file terrain eastings northings heights₀ codes₀ refusals₀ ground i₀ i-end heights codes refusals i =
-    let before = lists eastings northings heights₀ codes₀ refusals₀ in
-    (i ≤ length eastings) × (lists eastings northings heights codes refusals ≡ withAnswers (entryIn file terrain before) before i)
+    let before = fiveLists eastings northings heights₀ codes₀ refusals₀ in
+    (i ≤ length eastings) × (fiveLists eastings northings heights codes refusals ≡ withAnswers (answerIn file terrain before) before i)
 
 abbrev μ-loop : tie.MeasureT-loop
 μ-loop file terrain eastings northings heights₀ codes₀ refusals₀ ground i₀ i-end heights codes refusals i = length eastings - i
@@ -31,29 +31,30 @@ module _ (c : tie.In-loop Inv-loop μ-loop) where
   abbrev start : tie.Start Inv-loop μ-loop
   start = c .before .before .before .before .before .before .before .before .before
 
-  -- the lists as they were lent, and as they are
+  -- the lists as they were lent
   abbrev lent : Lists
   lent =
       let a = start .args in
-      lists (a .eastings .now) (a .northings .now) (a .heights .now) (a .codes .now) (a .refusals .now)
+      fiveLists (a .eastings .now) (a .northings .now) (a .heights .now) (a .codes .now) (a .refusals .now)
 
+  -- the lists as they are
   abbrev now : Lists
-  now = lists (lent .eastings) (lent .northings) (c .before .loop .heights) (c .before .loop .codes) (c .before .loop .refusals)
+  now = fiveLists (lent .eastings) (lent .northings) (c .before .loop .heights) (c .before .loop .codes) (c .before .loop .refusals)
 
   abbrev i : ℕ
   i = c .before .loop .i
 
   abbrev answer : ℕ → ReadAnswer
-  answer = entryIn (start .args .file .now) (start .args .terrain) lent
+  answer = answerIn (start .args .file .now) (start .args .terrain) lent
 
-  fit : Fits lent
+  fit : ListsFit lent
   fit = fits lent (start .pre .1)
 
   -- i is one of the points
   own : i < length (lent .eastings)
   own = omega arith
 
-  -- each list has an entry for it
+  -- each list has an entry i
   has-entry : HasEntry (now .heights) (now .codes) (now .refusals) i
   has-entry =
       let long : AsLong lent now = rw (c .before .loop .inv .1) (all-long answer lent i) in (
@@ -62,13 +63,16 @@ module _ (c : tie.In-loop Inv-loop μ-loop) where
       )
 
 point-at-requires : tie.Need-point-at-requires Inv-loop μ-loop
-point-at-requires c κs = (own c, omega (arith, own c, fit c .northings))
+point-at-requires c κs = (own c, omega (arith, own c, fit c .sameLength))
 
 read-in-requires : tie.Need-read-in-requires Inv-loop μ-loop
 read-in-requires c κs = start (c .before) .pre .0
 
 -- the answer to the point is the one that the contract speaks of
-read : (c : tie.After-answer Inv-loop μ-loop) → let at = c .before .before .before .before .before .before in c .answer .result ≡ answer at (i at)
+read : (c : tie.After-answer Inv-loop μ-loop) → (
+    let at = c .before .before .before .before .before .before in
+    c .answer .result ≡ answer at (i at)
+    )
 read c = c .answer .ensures ∙ ap readAnswer (rw (c .before .before .before .before .before .point-at .ensures) at (c .before .before .before .before .read-in .ensures))
 
 enter-requires : tie.Need-enter-requires Inv-loop μ-loop
@@ -87,19 +91,20 @@ loop-again : tie.Need-loop-again Inv-loop μ-loop
 loop-again c =
     let at = c .before .before .before .before .before .before .before .before .before .before .before .before .before in
     let e = c .before .before .before .before .before .before .enter .ensures in
-    (omega (arith, own at), rw (e .0, e .1 .0, e .1 .1) (one-answer-more (answer at) (lent at) (i at) (at .before .loop .inv .1) (read (c .before .before .before .before .before .before .before))))
+    let more = one-answer-more (answer at) (lent at) (i at) (at .before .loop .inv .1) (read (c .before .before .before .before .before .before .before)) in
+    (omega (arith, own at), rw (e .0, e .1 .0, e .1 .1) more)
 
 -- the lists at the end are as long as they were lent
 stays : (c : tie.After-loop Inv-loop μ-loop) → (
     let a = c .before .before .before .before .before .before .before .before .before .args in
     let loop = c .before .loop in
-    AsLong (lists (a .eastings .now) (a .northings .now) (a .heights .now) (a .codes .now) (a .refusals .now))
-    (lists (a .eastings .now) (a .northings .now) (loop .heights) (loop .codes) (loop .refusals))
+    AsLong (fiveLists (a .eastings .now) (a .northings .now) (a .heights .now) (a .codes .now) (a .refusals .now))
+    (fiveLists (a .eastings .now) (a .northings .now) (loop .heights) (loop .codes) (loop .refusals))
     )
 stays c =
     let a = c .before .before .before .before .before .before .before .before .before .args in
-    let before = lists (a .eastings .now) (a .northings .now) (a .heights .now) (a .codes .now) (a .refusals .now) in
-    rw (c .before .loop .inv .1) (all-long (entryIn (a .file .now) (a .terrain) before) before (c .before .loop .i))
+    let before = fiveLists (a .eastings .now) (a .northings .now) (a .heights .now) (a .codes .now) (a .refusals .now) in
+    rw (c .before .loop .inv .1) (all-long (answerIn (a .file .now) (a .terrain) before) before (c .before .loop .i))
 
 same-length : tie.Need-same-length Inv-loop μ-loop
 same-length c = stays c .heights

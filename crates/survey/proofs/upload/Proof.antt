@@ -4,16 +4,16 @@ use borrow.Author.Needs.{needs}
 use Rattle.ground.specs.Outcome.{given}
 use Rattle.ground.proofs.Laws.Outcome.{told}
 use Rattle.terrain.specs.Check.{checkedMeans}
-use Rattle.survey.specs.Survey.{Lists, lists, unfit, admitted}
+use Rattle.survey.specs.Survey.{Lists, fiveLists, unfit, admitted}
 use Rattle.survey.proofs.Laws.Survey.{upload-refused, admitted-is, upload-given}
 use Rattle.survey.proofs.upload.Statement.{statement}
 use Rattle.survey.proofs.upload.Tie as tie
 
 -- the lists as they were lent
 abbrev lent : tie.Start → Lists
-lent c = lists (c .args .eastings .now) (c .args .northings .now) (c .args .heights .now) (c .args .codes .now) (c .args .refusals .now)
+lent c = fiveLists (c .args .eastings .now) (c .args .northings .now) (c .args .heights .now) (c .args .codes .now) (c .args .refusals .now)
 
--- what admitting them came to
+-- what admitting the file and the lists came to
 said : (c : tie.After-admit) → (
     let start = c .before .before .before .before .before .before .before .before in
     checkedMeans (c .admit .result) ≡ admitted (start .args .file .now) (start .args .base) (start .args .zone) (unfit (lent start))
@@ -35,7 +35,12 @@ read-each-requires c κs =
     (record { base = _; zone = _; gave = is .0 }, is .1)
 
 returns : tie.Need-returns
-returns c = let at = c .before .before .before .before .before .before .before .before .before .before .before in upload-given _ _ _ (lent (at .before .before .before .before .before .before .before .before .before .before)) (gave at) (c .before .before .before .before .before .before .read-each .ensures)
+returns c =
+    let at = c .before .before .before .before .before .before .before .before .before .before .before in
+    let start = at .before .before .before .before .before .before .before .before .before .before in
+    let left = c .before .before .before .before .before .before .read-each .last .1 .1 .1 .1 in
+    upload-given _ _ _ (lent start) {m = fiveLists (lent start .eastings) (lent start .northings) (left .0) (left .1 .0) (left .1 .1 .0)} (gave at)
+    (c .before .before .before .before .before .before .read-each .ensures)
 
 returns-2 : tie.Need-returns-2
 returns-2 c = upload-refused _ _ _ _ (told checkedMeans (said (c .before .before .before)) (c .before .refusal .given .1))

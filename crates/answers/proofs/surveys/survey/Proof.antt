@@ -23,4 +23,7 @@ refusals-lent c = sym (length-take-le _ _ (search needs))
 pub survey-spec : {M : Type 1} → statement M
 survey-spec =
     tie.close
-    (tie.spec (search needs) (search needs) (search needs) (search needs) (search needs) (search needs) (search needs) (search needs) (search needs) (search needs) (search needs) (search needs) (search needs) (search needs) eastings-lent (search needs) northings-lent (search needs) heights-lent (search needs) codes-lent (search needs) refusals-lent (search needs) (search needs) (search needs) (search needs) (search needs) (search needs) (search needs) (search needs) (search needs) (search needs))
+    (tie.spec (search needs) (search needs) (search needs) (search needs) (search needs) (search needs) (search needs) (search needs)
+    (search needs) (search needs) (search needs) (search needs) (search needs) (search needs) eastings-lent (search needs) northings-lent
+    (search needs) heights-lent (search needs) codes-lent (search needs) refusals-lent (search needs) (search needs) (search needs)
+    (search needs) (search needs) (search needs) (search needs) (search needs) (search needs) (search needs))
