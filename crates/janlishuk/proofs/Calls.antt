@@ -370,9 +370,9 @@ module _ (κs : read-call .call .K) (a : read-call .call .A κs) (r : ReadAnswer
 
 -- Demand 1 written out for `janlishuk_upload`, in the caller's own five lists: as they were lent, and as they are left.
 module _ (κs : upload-call .call .K) (a : upload-call .call .A κs) where
-  abbrev lent : Lists
-  lent =
-      let five = a .1 .1 .1 in
+  -- five lists one after the other, each under its own name
+  abbrev byName : RefT (List ℕ) × (RefT (List ℕ) × (RefT (List ℕ) × (RefT (List ℕ) × (RefT (List ℕ) × Unit {0})))) → Lists
+  byName five =
       record {
         eastings = five .0 .now;
         northings = five .1 .0 .now;
@@ -381,16 +381,11 @@ module _ (κs : upload-call .call .K) (a : upload-call .call .A κs) where
         refusals = five .1 .1 .1 .1 .0 .now;
       }
 
+  abbrev lent : Lists
+  lent = byName (a .1 .1 .1)
+
   abbrev left : upload-call .call .S κs → Lists
-  left x =
-      let five = x .1 .1 .1 in
-      record {
-        eastings = five .0 .now;
-        northings = five .1 .0 .now;
-        heights = five .1 .1 .0 .now;
-        codes = five .1 .1 .1 .0 .now;
-        refusals = five .1 .1 .1 .1 .0 .now;
-      }
+  left x = byName (x .1 .1 .1)
 
   module _ (r : UploadAnswer) (x : upload-call .call .S κs) (told : janlishuk-upload.Learnt κs a r x) where
     pub record UploadWrittenOut : Type 0 where

@@ -104,7 +104,7 @@ module _ (file after : List ℕ) (b z : ℕ) (c : CheckAnswer) (checks : Checks 
       let passes = fit-passes lent fit in
       rw (uploads .0 .answer) (ap refusalNumber (lists-given file b z lent (t .1) passes))
 
-  -- no number of an upload is met at a sample
+  -- the place of an upload is 0
   pub place-is-0 : u .place ≡ 0
   place-is-0 = rw (uploads .0 .answer) (go _ _ (first-of (upload-order file b z lent)))
     where
