@@ -1,8 +1,8 @@
 -- The lent lists: which points they hold, when they fit together, and what each entry holds after the answers to the first k points were written. From the
 -- definition of the lists alone. Assumes nothing.
-use mathlib.Core.Path.{_≡_, refl, _∙_, ap}
+use mathlib.Core.Path.{_≡_, refl, sym, _∙_, ap}
 use mathlib.Core.Logic.{_↔_, _⊎_, inl, inr, ⊎-elim}
-use mathlib.Core.Bool.{Bool, true, false, not}
+use mathlib.Core.Bool.{Bool, true, false, not, false≢true}
 use mathlib.Core.List.{List}
 use Prim.Native.Nat.{ℕ, zero, suc, _+_, _≤_, _<_}
 use native.Mathlib.Nat.{le-of-suc-le-suc, eq-or-lt-of-le}
@@ -11,7 +11,7 @@ use native.Mathlib.Omega.{arith}
 use lib.Dec.{eqb, ltb}
 use lib.ListN.{length, getD, set, length-set}
 use lib.Seq.{getD-set-same, getD-set-other}
-use borrow.Author.Tests.{ltb-true, ltb-false, lt-ltb, eqb-true, eqb-false, ne-eqb, not-true, not-false}
+use borrow.Author.Tests.{ltb-true, ltb-false, lt-ltb, le-ltb, eqb-true, eqb-false, eq-eqb, ne-eqb, not-true, not-false}
 use Rattle.ground.specs.Measure.{metres}
 use Rattle.ground.proofs.Laws.Test.{either, neither}
 use Rattle.reading.specs.declared.point.ReadAnswer.{ReadAnswer}
@@ -67,34 +67,30 @@ fits l e =
       refusals = ltb-false _ _ (d .1);
     }
 
--- a test that does not hold fails
-test-fails : (t : Bool) → (t ≡ true → ⊥) → t ≡ false
-test-fails true n = absurd (n refl)
-test-fails false n = refl
+-- lists that fit pass the test
+pub fit-passes : (l : Lists) → ListsFit l → unfit l ≡ false
+unfolding unfit
+fit-passes l f =
+    simp (eq-eqb _ _ (f .sameLength), le-ltb _ _ (f .most), le-ltb _ _ (f .heights), le-ltb _ _ (f .codes), le-ltb _ _ (f .refusals))
 
--- a test that does not fail holds
-test-holds : (t : Bool) → (t ≡ false → ⊥) → t ≡ true
-test-holds true n = refl
-test-holds false n = absurd (n refl)
+-- lists fit or are found not to
+fit-or-not : (l : Lists) → ListsFit l ⊎ (unfit l ≡ true)
+fit-or-not l = go (unfit l) refl
+  where
+    go : (t : Bool) → unfit l ≡ t → ListsFit l ⊎ (unfit l ≡ true)
+    go true e = inr e
+    go false e = inl (fits l e)
 
 -- 10 does not hold exactly if the lists fit
 pub fits-exactly : (l : Lists) → (Unfit l → ⊥) ↔ ListsFit l
-fits-exactly l = ((λ n. fits l (test-fails (unfit l) λ e. n (unfit-is l .0 e))), λ f. ⊎-elim (λ d. d (f .sameLength)) λ x. tooShort f x)
-  where
-    tooShort : ListsFit l
-        → (mostPoints < pointCount l) ⊎ ((length (l .heights) < pointCount l) ⊎ ((length (l .codes) < pointCount l) ⊎ (length (l .refusals) < pointCount l))) → ⊥
-    tooShort f (inl h) = omega (arith, f .most)
-    tooShort f (inr (inl h)) = omega (arith, f .heights)
-    tooShort f (inr (inr (inl h))) = omega (arith, f .codes)
-    tooShort f (inr (inr (inr h))) = omega (arith, f .refusals)
-
--- lists that fit pass the test
-pub fit-passes : (l : Lists) → ListsFit l → unfit l ≡ false
-fit-passes l f = test-fails (unfit l) λ e. fits-exactly l .1 f (unfit-is l .0 e)
+fits-exactly l = (
+  (λ n. ⊎-elim (λ f. f) (λ e. absurd (n (unfit-is l .0 e))) (fit-or-not l)),
+  λ f u. false≢true (sym (fit-passes l f) ∙ unfit-is l .1 u),
+)
 
 -- lists that do not fit do not pass the test
 pub unfit-found : (l : Lists) → (ListsFit l → ⊥) → unfit l ≡ true
-unfit-found l n = test-holds (unfit l) λ e. n (fits l e)
+unfit-found l n = ⊎-elim (λ f. absurd (n f)) (λ e. e) (fit-or-not l)
 
 -- A list of which the first k entries are written:
 module _ (entry : ℕ → ℕ) (list : List ℕ) where
