@@ -1,7 +1,7 @@
 /* Asks the library and plain C the same questions about two made files.
  *   bench same                     compares all answers of the two over many questions, also about damaged files; exit 1 on a difference
  *   bench CALL SIDE FILE TIMES     makes the file, asks the call TIMES times, and prints its answer
- * CALL is check, read, upload, profile, verdict, plan or plan_none; SIDE is library, plain or every_pair; FILE is hundred or all. */
+ * CALL is check, read, read_seam, upload, profile, verdict, plan or plan_none; SIDE is library, plain or every_pair; FILE is hundred or all. */
 #include "plain.h"
 
 #include <stdbool.h>
@@ -469,16 +469,21 @@ static int same(void)
     return every ? 0 : 1;
 }
 
-/* A call of the measured ones, by its name; plan_none is asked of a file with a ridge. */
+/* The north-eastern corner of the band. Where the band alone is covered, it is read from the last of the four rectangles that are tried. */
+static const struct janlishuk_point seam = {ZONE, WEST + 7500 * (BAND_COLUMN + BAND), SOUTH + 15500 * (BAND_ROW + BAND)};
+
+/* A call of the measured ones, by its name; plan_none is asked of a file with a ridge, read_seam of a point on a seam. */
 struct call {
     const char *name;
     void (*ask)(const struct side *side, const struct question *q, unsigned long times);
     bool ridge;
+    bool seam;
 };
 
 static const struct call calls[] = {
-    {"check", ask_check, false},     {"read", ask_read, false}, {"upload", ask_upload, false},  {"profile", ask_profile, false},
-    {"verdict", ask_verdict, false}, {"plan", ask_plan, false}, {"plan_none", ask_plan, true},
+    {"check", ask_check, false, false},     {"read", ask_read, false, false},       {"read_seam", ask_read, false, true},
+    {"upload", ask_upload, false, false},   {"profile", ask_profile, false, false}, {"verdict", ask_verdict, false, false},
+    {"plan", ask_plan, false, false},       {"plan_none", ask_plan, true, false},
 };
 
 /* Asks what the arguments name; 2 where they name nothing. */
@@ -493,6 +498,8 @@ int main(int argc, char **argv)
             if (strcmp(argv[1], calls[c].name) != 0 || strcmp(argv[2], sides[s].name) != 0)
                 continue;
             struct question q = long_path(make_file(all, calls[c].ridge));
+            if (calls[c].seam)
+                q.first = seam;
             calls[c].ask(&sides[s], &q, strtoul(argv[4], NULL, 10));
             return 0;
         }

@@ -1,4 +1,4 @@
-/* The calls check, read, profile, verdict and plan as document 01 has them, and upload as document 02 has it, in plain C. */
+/* The calls check, read, profile, verdict and plan as document 01 and request b) of document 02 have them, and upload as document 02 has it, in plain C. */
 #include "plain.h"
 
 #include <stdbool.h>
@@ -111,14 +111,41 @@ static inline bool on_ground(const struct ground *ground, const struct janlishuk
     return point->zone == ground->zone && point->easting - WEST < WIDTH && point->northing - ground->south < ground->extent;
 }
 
-/* The part of a file from the south-west corner of a point on, for the point's units east and north; null where not covered. */
+/* What the index says of a rectangle: the number of its record, or 0. Rectangle 0 has no position. */
+static inline uint32_t entry(const uint8_t *file, uint32_t rectangle)
+{
+    return rectangle == 0 ? 0 : position(file, rectangle);
+}
+
+/* The part of a file from the word of a record in this row and column on. */
+static inline const uint8_t *word_at(const uint8_t *file, uint32_t record, uint32_t row, uint32_t column)
+{
+    return file + RECORD_BYTES * (record - 1) + 2 * (ROW_WORDS * row + column);
+}
+
+/* The word of a point whose own rectangle is not covered, in the first covered of the rectangles to the west, south and south-west on whose
+ * edge it lies, for its units and metres past them; null where none is. */
+static const uint8_t *find_beside(const uint8_t *file, uint32_t x, uint32_t y, uint32_t fx, uint32_t fy)
+{
+    uint32_t rectangle = COLUMNS * (y / UNITS_NORTH) + x / UNITS_EAST, record;
+    bool west = x >= UNITS_EAST && x % UNITS_EAST == 0 && fx == 0;
+    bool south = y >= UNITS_NORTH && y % UNITS_NORTH == 0 && fy == 0;
+    if (west && (record = entry(file, rectangle - 1)) != 0)
+        return word_at(file, record, y % UNITS_NORTH, UNITS_EAST);
+    if (south && (record = entry(file, rectangle - COLUMNS)) != 0)
+        return word_at(file, record, UNITS_NORTH, x % UNITS_EAST);
+    if (west && south && (record = entry(file, rectangle - COLUMNS - 1)) != 0)
+        return word_at(file, record, UNITS_NORTH, UNITS_EAST);
+    return NULL;
+}
+
+/* The part of a file from the south-west corner of a point on, in the point's own rectangle; null where that is not covered. */
 static inline const uint8_t *find_corner(const uint8_t *file, uint32_t x, uint32_t y)
 {
-    uint32_t rectangle = COLUMNS * (y / UNITS_NORTH) + x / UNITS_EAST;
-    uint32_t record = rectangle == 0 ? 0 : position(file, rectangle);
+    uint32_t record = entry(file, COLUMNS * (y / UNITS_NORTH) + x / UNITS_EAST);
     if (record == 0)
         return NULL;
-    return file + RECORD_BYTES * (record - 1) + 2 * (ROW_WORDS * (y % UNITS_NORTH) + x % UNITS_EAST);
+    return word_at(file, record, y % UNITS_NORTH, x % UNITS_EAST);
 }
 
 /* Whether a corner weighs in and has no height. */
@@ -141,12 +168,24 @@ static uint32_t read_point(const struct ground *ground, const struct janlishuk_p
     uint32_t east = point->easting - WEST, north = point->northing - ground->south;
     uint32_t fx = east % UNIT, fy = north % UNIT;
     const uint8_t *corner = find_corner(ground->file, east / UNIT, north / UNIT);
-    if (corner == NULL)
-        return 5;
-    uint32_t sw = number_at(corner), sw_weight = (UNIT - fx) * (UNIT - fy);
-    uint32_t se = number_at(corner + 2), se_weight = fx * (UNIT - fy);
-    uint32_t nw = number_at(corner + 2 * ROW_WORDS), nw_weight = (UNIT - fx) * fy;
-    uint32_t ne = number_at(corner + 2 * ROW_WORDS + 2), ne_weight = fx * fy;
+    uint32_t sw, se, nw, ne;
+    if (corner != NULL) {
+        sw = number_at(corner);
+        se = number_at(corner + 2);
+        nw = number_at(corner + 2 * ROW_WORDS);
+        ne = number_at(corner + 2 * ROW_WORDS + 2);
+    } else {
+        corner = find_beside(ground->file, east / UNIT, north / UNIT, fx, fy);
+        if (corner == NULL)
+            return 5;
+        /* a corner that does not weigh in may lie past the record, even past the file: it is not looked at */
+        sw = number_at(corner);
+        se = fx > 0 ? number_at(corner + 2) : 0;
+        nw = fy > 0 ? number_at(corner + 2 * ROW_WORDS) : 0;
+        ne = 0;
+    }
+    uint32_t sw_weight = (UNIT - fx) * (UNIT - fy), se_weight = fx * (UNIT - fy);
+    uint32_t nw_weight = (UNIT - fx) * fy, ne_weight = fx * fy;
     if (lacks_height(sw, sw_weight) || lacks_height(se, se_weight) || lacks_height(nw, nw_weight) || lacks_height(ne, ne_weight))
         return 6;
     *height = sw_weight * (sw % ELEVATIONS) + se_weight * (se % ELEVATIONS) + nw_weight * (nw % ELEVATIONS) + ne_weight * (ne % ELEVATIONS);

@@ -14,6 +14,11 @@
  * rectangles of 7.5 by 15.5 km, each of which the file covers or not. A height is the weighted mean of the four grid corners, 500 m
  * apart, around the point; a corner of weight 0 does not count.
  *
+ * Seams. A point exactly on the seam of two rectangles belongs to the eastern or the northern one. Where that one is not covered, the point
+ * is read from the rectangle to the west or to the south, whose record repeats the edge: a tower at the eastern or northern edge of covered
+ * land is on it. At a corner of four, west is tried before south, and south before south-west; the first that is covered is taken, and the
+ * reading, with its refusal 6, is of that record alone. One metre past the seam a point is not on it. All calls that read follow this.
+ *
  * Refusals. `refusal` 0 means that the answer is given. Else it is the first of these that holds, in the order 1, 2, 3, then for a point
  * 4, 5, 6; for a path 4 for the first end, 4 for the second, 7, 8, then 4, 5, 6 at each sample from 0 upward, then 9. Each call says
  * which numbers it can give, and skips the others. Numbers from 10 on are of document 02, in which customers asked for more calls than the
@@ -24,7 +29,7 @@
  *      other than 0 that is below 7, above the highest, in another position too, or where no rectangle is. A file with its name
  *      stamped into its first four bytes breaks them too
  *   4  the point is of another zone, or not on the file's ground; of janlishuk_base: no file has this northing
- *   5  the file does not cover the point's rectangle
+ *   5  the file covers neither the point's rectangle nor, for a point on a seam, another that shares the point
  *   6  a corner that weighs in at the point has no height
  *   7  the two ends are one point, or more than 100 km apart
  *   8  a mast or mast limit is above 100 m, or the sample that janlishuk_engine_row is asked for is above n

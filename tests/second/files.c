@@ -58,8 +58,62 @@ static void cover_scattered(struct file *file, uint32_t all_rows)
     file->home = (struct box){.west = home % 100, .south = home / 100, .columns = 1, .rows = 1};
 }
 
-/* Chooses the rectangles that a file covers: none, a few, about a hundred side by side with or without gaps, some here and there, or
- * every one. Files that are to be damaged are mostly small. */
+/* Covers a rectangle that is not covered yet. */
+static void cover_one(struct file *file, uint32_t rectangle)
+{
+    for (uint32_t k = 0; k < file->covered_count; k++)
+        if (file->covered[k] == rectangle)
+            return;
+    file->covered[file->covered_count++] = (uint16_t)rectangle;
+}
+
+/* A column or a row of rectangles: often the first, the one after it or the last. */
+static uint32_t draw_line(uint32_t count)
+{
+    return chance(12) ? 0 : chance(20) ? 1 : chance(12) ? count - 1 : below(count);
+}
+
+/* Covers some of the four rectangles about a corner, numbers n, n - 1, n - 100 and n - 101 where there are such: any choice of them, or
+ * often the last alone. In column 0 two of them lie at the other end of the ground. */
+static void cover_about(struct file *file, uint32_t own)
+{
+    static const uint32_t steps[4] = {0, 1, 100, 101};
+    uint32_t chosen = chance(20) ? 1u << 3 : below(16);
+    for (uint32_t k = 0; k < 4; k++)
+        if (own > steps[k] && (chosen >> k & 1) != 0)
+            cover_one(file, own - steps[k]);
+}
+
+/* Whether a corner has a rectangle about it in common with a remembered one. */
+static bool near_corner(const struct file *file, uint32_t ix, uint32_t iy)
+{
+    for (uint32_t k = 0; k < file->corner_count; k++) {
+        uint32_t column = file->corners[k] % 100;
+        uint32_t row = file->corners[k] / 100;
+        if (ix + 1 >= column && ix <= column + 1 && iy + 1 >= row && iy <= row + 1)
+            return true;
+    }
+    return false;
+}
+
+/* Covers rectangles about some corners, which are remembered; home is about the last of them. */
+static void cover_corners(struct file *file, uint32_t all_rows)
+{
+    uint32_t tries = between(2, MOST_CORNERS);
+    for (uint32_t k = 0; k < tries; k++) {
+        uint32_t ix = draw_line(100);
+        uint32_t iy = draw_line(all_rows);
+        uint32_t own = 100 * iy + ix;
+        if (near_corner(file, ix, iy))
+            continue;
+        cover_about(file, own);
+        file->corners[file->corner_count++] = own;
+        file->home = (struct box){.west = ix - (ix > 0), .south = iy - (iy > 0), .columns = 1 + (ix > 0), .rows = 1 + (iy > 0)};
+    }
+}
+
+/* Chooses the rectangles that a file covers: none, a few, some here and there, any about some corners, about a hundred side by side with or
+ * without gaps, or every one. Files that are to be damaged are mostly small. */
 static void cover(struct file *file)
 {
     static const uint32_t few[5][2] = {{1, 1}, {2, 1}, {1, 2}, {2, 2}, {3, 2}};
@@ -69,12 +123,15 @@ static void cover(struct file *file)
     const uint32_t *large = hundred[below(5)];
     uint32_t kind = file->damage == WHOLE ? below(100) : below(50);
     file->covered_count = 0;
+    file->corner_count = 0;
     if (kind < 4)
         cover_box(file, draw_box(2, 2, all_rows), 100);
-    else if (kind < 20)
+    else if (kind < 14)
         cover_box(file, draw_box(small[0], small[1], all_rows), 0);
-    else if (kind < 26)
+    else if (kind < 18)
         cover_scattered(file, all_rows);
+    else if (kind < 40)
+        cover_corners(file, all_rows);
     else if (kind < 75)
         cover_box(file, draw_box(large[0], large[1], all_rows), 0);
     else if (kind < 90)
@@ -137,11 +194,12 @@ static void bowl(int32_t *lines, uint32_t count, int32_t start, uint32_t middle)
     }
 }
 
-/* Chooses the elevations: flat, hills, a bowl about the home, rough, or random; most with a little drawn part. */
+/* Chooses the elevations: flat, hills, a bowl about the home, rough, or random; most with a little drawn part. Where corners are remembered
+ * they are mostly rough or random, so that records that meet there differ. */
 static void draw_elevations(const struct file *file)
 {
     static const uint32_t levels[6] = {0, 1, 100, 8000, 8189, 8190};
-    uint32_t kind = below(100);
+    uint32_t kind = file->corner_count > 0 && chance(75) ? between(80, 99) : below(100);
     uint32_t level = chance(40) ? levels[below(6)] : below(8191);
     walk(ground.north, NORTH_LINES, 0, 0);
     walk(ground.east, EAST_LINES, (int32_t)level, 0);
@@ -205,23 +263,38 @@ static void take_height(struct file *file, uint32_t rectangle, uint8_t *record, 
         file->missing[file->missing_count++] = (struct spot){.rectangle = rectangle, .word = word};
 }
 
-/* Takes the heights of the last column or the last row of a rectangle, or of all its words. */
+/* Takes the heights of an edge of a rectangle, mostly of the last column or the last row, of its four corners, or of all its words; in some
+ * cases only of about half of these words. */
 static void take_many(struct file *file, uint32_t rectangle, uint8_t *record)
 {
-    uint32_t kind = below(5);
+    uint32_t kind = chance(40) ? below(2) : below(6);
+    uint32_t percent = chance(70) ? 100 : 50;
     for (uint32_t word = 1; word <= 512; word++) {
-        bool last_column = word % 16 == 0;
-        bool last_row = word > 512 - 16;
-        if (kind == 4 || (kind < 2 && last_column) || (kind > 1 && last_row))
+        bool corner = word == 1 || word == 16 || word == 497 || word == 512;
+        const bool of_kind[6] = {word % 16 == 0, word > 512 - 16, word % 16 == 1, word <= 16, corner, true};
+        if (of_kind[kind] && chance(percent))
             take_height(file, rectangle, record, word);
     }
 }
 
-/* Takes heights here and there: in most files none, else a few of many words, one word in twenty of some rectangles, or edges. */
+/* Takes heights of about every second rectangle, mostly of an edge. */
+static void take_edges(struct file *file, const uint32_t record_of[MOST_COVERED])
+{
+    for (uint32_t k = 0; k < file->covered_count; k++)
+        if (chance(45))
+            take_many(file, file->covered[k], file->bytes + 1024 * (record_of[k] - 1));
+}
+
+/* Takes heights here and there: in most files none, else a few of many words, one word in twenty of some rectangles, or edges, and these in
+ * many of the files with remembered corners. */
 static void take_heights(struct file *file, const uint32_t record_of[MOST_COVERED])
 {
     uint32_t kind = below(100);
     file->missing_count = 0;
+    if (file->corner_count > 0 && chance(70)) {
+        take_edges(file, record_of);
+        return;
+    }
     if (file->covered_count == 0 || kind < 55)
         return;
     uint32_t times = kind < 85 ? 1 + file->covered_count * 512 / 6000 : 1 + file->covered_count / 20;

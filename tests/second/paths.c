@@ -107,14 +107,14 @@ static struct stretch turned(struct stretch stretch)
     return stretch;
 }
 
-/* A path within the home of the file where one is found that fits, else anywhere on the ground. */
+/* A path within the home of the file where one is found that fits, some of them moved to its edge, else anywhere on the ground. */
 static struct path draw_home_path(const struct file *file, uint32_t base, uint32_t zone)
 {
     struct path path = {0};
     for (int tries = 0; tries < 8; tries++) {
         struct stretch stretch = turned(draw_length(file));
         if (place_path(file->home, base, zone, stretch.east, stretch.north, &path))
-            return path;
+            return chance(12) ? moved_to_edge(file->home, base, path) : path;
     }
     struct box all = {.columns = 100, .rows = (uint32_t)rules_rows(base)};
     struct stretch stretch = turned(draw_length(file));
@@ -122,13 +122,13 @@ static struct path draw_home_path(const struct file *file, uint32_t base, uint32
     return path;
 }
 
-/* A path for a question: a planted one, one within the home, or one with an end or both of them anywhere. */
+/* A path for a question: a planted one, one on a seam, one within the home, or one with an end or both of them anywhere. */
 struct path draw_path(const struct file *file, uint32_t base, uint32_t zone, bool *planted)
 {
     *planted = file->planted_count > 0 && chance(20);
     if (*planted)
         return file->planted[below(file->planted_count)];
-    struct path path = draw_home_path(file, base, zone);
+    struct path path = chance(file->corner_count > 0 ? 60 : 8) ? draw_seam_path(file, base, zone) : draw_home_path(file, base, zone);
     if (chance(4))
         path.first = draw_point(file, base, zone);
     if (chance(5))

@@ -53,7 +53,7 @@ static void set_elevation(uint8_t *record, uint64_t word, uint64_t elevation)
 static void raise_ground(struct file *file, struct janlishuk_point point, uint64_t millimetres)
 {
     struct rules_corner corners[4];
-    rules_corners(own(file), point, corners);
+    rules_corners(own(file), point, RULES_OWN, corners);
     uint64_t record = rules_position(file->bytes, rules_rectangle(file->base, point));
     uint8_t *bytes = file->bytes + 1024 * (record - 1);
     uint64_t word = rules_word(file->base, point);

@@ -18,7 +18,7 @@ struct janlishuk_point point_at(uint32_t base, uint32_t zone, uint32_t rectangle
 }
 
 /* Metres beyond a unit line, 0 to 499: often none, or such that corners weigh alike. */
-static uint32_t draw_part(void)
+uint32_t draw_part(void)
 {
     static const uint32_t parts[6] = {0, 0, 1, 125, 250, 499};
     return chance(60) ? parts[below(6)] : below(500);
@@ -32,7 +32,8 @@ static struct janlishuk_point in_rectangle(uint32_t base, uint32_t zone, uint32_
     return point_at(base, zone, rectangle, 500 * wx + draw_part(), 500 * wy + draw_part());
 }
 
-/* A point of which a word without height is one of the four corners. */
+/* A point of which a word without height is one of the four corners, in the rectangle of that word or, for a word of the last column or
+ * row, where the next rectangle begins. */
 static struct janlishuk_point near_missing(const struct file *file, uint32_t base, uint32_t zone)
 {
     struct spot spot = file->missing[below(file->missing_count)];
@@ -40,7 +41,9 @@ static struct janlishuk_point near_missing(const struct file *file, uint32_t bas
     uint32_t row = (spot.word - 1) / 16;
     uint32_t wx = column == 15 ? 14 : column == 0 ? 0 : column - below(2);
     uint32_t wy = row == 31 ? 30 : row == 0 ? 0 : row - below(2);
-    return point_at(base, zone, spot.rectangle, 500 * wx + draw_part(), 500 * wy + draw_part());
+    uint32_t east = column == 15 && chance(50) ? 7500 : 500 * wx + draw_part();
+    uint32_t north = row == 31 && chance(50) ? 15500 : 500 * wy + draw_part();
+    return point_at(base, zone, spot.rectangle, east, north);
 }
 
 /* A point on or beside a bound of the ground. */
@@ -63,15 +66,18 @@ uint32_t other_zone(uint32_t zone)
     return kind < 40 ? zone + 1 : kind < 60 ? zone + (1u << between(8, 31)) : far_number();
 }
 
-/* A point for a question: mostly on covered ground, else where a height is missing, at a bound, in rectangle 0, anywhere, or of another
- * zone. */
+/* A point for a question: mostly on covered ground or on a seam, else where a height is missing, at a bound, in rectangle 0, anywhere, or
+ * of another zone. */
 struct janlishuk_point draw_point(const struct file *file, uint32_t base, uint32_t zone)
 {
     uint32_t kind = below(100);
     uint32_t all = 100 * (uint32_t)rules_rows(base);
+    uint32_t seams = file->corner_count > 0 ? 45 : 15;
     struct janlishuk_point point = in_rectangle(base, zone, below(all));
-    if (kind < 25 && file->missing_count > 0)
+    if (kind < 20 && file->missing_count > 0)
         point = near_missing(file, base, zone);
+    else if (kind < 20 + seams)
+        point = draw_seam_point(file, base, zone);
     else if (kind < 70 && file->covered_count > 0)
         point = in_rectangle(base, zone, file->covered[below(file->covered_count)]);
     else if (kind < 85)

@@ -1,5 +1,5 @@
-/* The rules of document 01, and of request a) of document 02, sentence by sentence. All arithmetic is in 64 bits, in which nothing here can
- * overflow: what a caller passes is multiplied only after it was found on the ground or within its limit. */
+/* The rules of document 01, and of requests a) and b) of document 02, sentence by sentence. All arithmetic is in 64 bits, in which nothing
+ * here can overflow: what a caller passes is multiplied only after it was found on the ground or within its limit. */
 #include "rules.h"
 
 /* The southern boundary yB(b) in 500 m units, by the formula: 31 x (7b + (1000 + (246 + b) x b) / 2000), division truncated. */
@@ -134,28 +134,83 @@ bool rules_on_ground(uint64_t base, struct janlishuk_point point)
     return easting_holds && northing_holds;
 }
 
-/* The rectangle n = 100 Iy + Ix of a point on the ground. */
-uint64_t rules_rectangle(uint64_t base, struct janlishuk_point point)
+/* Where a point on the ground lies, with x = E / 500 and y = N / 500 truncated: Iy = (y - yB) / 31, Ix = (x - 250) / 15,
+ * wx = x - 250 - 15 Ix, wy = y - yB - 31 Iy, fx = E mod 500, fy = N mod 500. */
+struct rules_place rules_place(uint64_t base, struct janlishuk_point point)
 {
     uint64_t x = point.easting / 500;
     uint64_t y = point.northing / 500;
-    return 100 * ((y - rules_boundary(base)) / 31) + (x - 250) / 15;
+    struct rules_place place;
+    place.iy = (y - rules_boundary(base)) / 31;
+    place.ix = (x - 250) / 15;
+    place.wx = x - 250 - 15 * place.ix;
+    place.wy = y - rules_boundary(base) - 31 * place.iy;
+    place.fx = point.easting % 500;
+    place.fy = point.northing % 500;
+    return place;
 }
 
-/* The word w = 16 wy + wx + 1 of a point on the ground, in its rectangle. */
+/* The rectangle n = 100 Iy + Ix of a point on the ground, which is its own. */
+uint64_t rules_rectangle(uint64_t base, struct janlishuk_point point)
+{
+    struct rules_place place = rules_place(base, point);
+    return 100 * place.iy + place.ix;
+}
+
+/* The word w = 16 wy + wx + 1 of a point on the ground, in its own rectangle. */
 uint64_t rules_word(uint64_t base, struct janlishuk_point point)
 {
-    uint64_t x = point.easting / 500;
-    uint64_t y = point.northing / 500;
-    uint64_t wx = x - 250 - 15 * ((x - 250) / 15);
-    uint64_t wy = y - rules_boundary(base) - 31 * ((y - rules_boundary(base)) / 31);
-    return 16 * wy + wx + 1;
+    struct rules_place place = rules_place(base, point);
+    return 16 * place.wy + place.wx + 1;
 }
 
 /* The number of the record of a rectangle, 0 if not covered. Rectangle 0 has no position and is never covered. */
-static uint64_t record_of(struct rules_file file, uint64_t rectangle)
+uint64_t rules_record(struct rules_file file, uint64_t rectangle)
 {
     return rectangle == 0 ? 0 : rules_position(file.bytes, rectangle);
+}
+
+/* Whether a point may be read from a rectangle, if it is covered: from its own always, from the one to the west with wx = 0 and fx = 0,
+ * from the one to the south with wy = 0 and fy = 0, from the south-west one with all four 0. No rectangle lies west of column 0 or south
+ * of row 0. */
+bool rules_allowed(struct rules_place place, enum rules_from from)
+{
+    bool west = place.wx == 0 && place.fx == 0 && place.ix != 0;
+    bool south = place.wy == 0 && place.fy == 0 && place.iy != 0;
+    switch (from) {
+    case RULES_OWN: return true;
+    case RULES_WEST: return west;
+    case RULES_SOUTH: return south;
+    case RULES_SOUTH_WEST: return west && south;
+    default: return false;
+    }
+}
+
+/* Where a point stands in a rectangle that it may be read from: in its own at wx and wy, in the one to the west in column 15, in the one to
+ * the south in row 31, in the south-west one in the corner of both. */
+struct rules_seat rules_seat(struct rules_place place, enum rules_from from)
+{
+    struct rules_seat seat = {.rectangle = 100 * place.iy + place.ix, .column = place.wx, .row = place.wy};
+    if (from == RULES_WEST || from == RULES_SOUTH_WEST) {
+        seat.rectangle -= 1;
+        seat.column = 15;
+    }
+    if (from == RULES_SOUTH || from == RULES_SOUTH_WEST) {
+        seat.rectangle -= 100;
+        seat.row = 31;
+    }
+    return seat;
+}
+
+/* The rectangle that a point on the ground is read from: own, west, south, south-west are tried, and the first covered that it may be read
+ * from is taken; none where there is no such. */
+enum rules_from rules_taken(struct rules_file file, struct janlishuk_point point)
+{
+    struct rules_place place = rules_place(file.base, point);
+    for (enum rules_from from = RULES_OWN; from < RULES_NONE; from++)
+        if (rules_allowed(place, from) && rules_record(file, rules_seat(place, from).rectangle) != 0)
+            return from;
+    return RULES_NONE;
 }
 
 /* Word w of a record, records and words numbered from 1: 8192 x surface code + elevation, high byte first. */
@@ -165,19 +220,25 @@ static uint64_t word_of(struct rules_file file, uint64_t record, uint64_t w)
     return 256 * (uint64_t)two[0] + two[1];
 }
 
-/* The corners of a point in a covered rectangle, words w, w+1, w+16, w+17, with the weights SW, SE, NW, NE. */
-void rules_corners(struct rules_file file, struct janlishuk_point point, struct rules_corner corners[4])
+/* The corners of a point in a covered rectangle that it may be read from, SW, SE, NW, NE, with their weights. In its own they are the words
+ * w, w+1, w+16, w+17. In one beside it, corners east of column 15 or north of row 31 are not in the record: they weigh 0, and elevation
+ * and code are left 0. */
+void rules_corners(struct rules_file file, struct janlishuk_point point, enum rules_from from, struct rules_corner corners[4])
 {
-    uint64_t record = record_of(file, rules_rectangle(file.base, point));
-    uint64_t w = rules_word(file.base, point);
-    uint64_t fx = point.easting % 500;
-    uint64_t fy = point.northing % 500;
-    const uint64_t words[4] = {w, w + 1, w + 16, w + 17};
+    struct rules_place place = rules_place(file.base, point);
+    struct rules_seat seat = rules_seat(place, from);
+    uint64_t record = rules_record(file, seat.rectangle);
+    uint64_t fx = place.fx;
+    uint64_t fy = place.fy;
     const uint64_t weights[4] = {(500 - fx) * (500 - fy), fx * (500 - fy), (500 - fx) * fy, fx * fy};
-    for (int k = 0; k < 4; k++) {
-        corners[k].weight = weights[k];
-        corners[k].elevation = word_of(file, record, words[k]) % 8192;
-        corners[k].code = word_of(file, record, words[k]) / 8192;
+    for (uint64_t k = 0; k < 4; k++) {
+        uint64_t column = seat.column + k % 2;
+        uint64_t row = seat.row + k / 2;
+        corners[k] = (struct rules_corner){.weight = weights[k]};
+        if (column > 15 || row > 31)
+            continue;
+        corners[k].elevation = word_of(file, record, 16 * row + column + 1) % 8192;
+        corners[k].code = word_of(file, record, 16 * row + column + 1) / 8192;
     }
 }
 
@@ -194,16 +255,12 @@ static uint32_t surface_code(const struct rules_corner corners[4])
     return best;
 }
 
-/* The reading of a point in a file that passes: the exact height and the surface code, or the first of the refusals 4, 5, 6 that holds. */
-static struct janlishuk_read_answer reading(struct rules_file file, struct janlishuk_point point)
+/* What is read of a point in a covered rectangle that it may be read from: the exact height and the surface code, or refusal 6. */
+struct janlishuk_read_answer rules_read_from(struct rules_file file, struct janlishuk_point point, enum rules_from from)
 {
     struct janlishuk_read_answer answer = {0};
     struct rules_corner corners[4];
-    if (point.zone != file.zone || !rules_on_ground(file.base, point))
-        return (struct janlishuk_read_answer){.refusal = 4};
-    if (record_of(file, rules_rectangle(file.base, point)) == 0)
-        return (struct janlishuk_read_answer){.refusal = 5};
-    rules_corners(file, point, corners);
+    rules_corners(file, point, from, corners);
     for (int k = 0; k < 4; k++)
         if (corners[k].weight > 0 && corners[k].elevation == RULES_NO_HEIGHT)
             return (struct janlishuk_read_answer){.refusal = 6};
@@ -213,6 +270,18 @@ static struct janlishuk_read_answer reading(struct rules_file file, struct janli
     answer.height = (uint32_t)sum;
     answer.code = surface_code(corners);
     return answer;
+}
+
+/* The reading of a point in a file that passes, from the rectangle taken: the exact height and the surface code, or the first of the
+ * refusals 4, 5, 6 that holds. */
+static struct janlishuk_read_answer reading(struct rules_file file, struct janlishuk_point point)
+{
+    if (point.zone != file.zone || !rules_on_ground(file.base, point))
+        return (struct janlishuk_read_answer){.refusal = 4};
+    enum rules_from taken = rules_taken(file, point);
+    if (taken == RULES_NONE)
+        return (struct janlishuk_read_answer){.refusal = 5};
+    return rules_read_from(file, point, taken);
 }
 
 /* The exact height at a point in units of 1/250,000 m and its surface code; refusals 1 to 6. */

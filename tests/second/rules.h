@@ -1,5 +1,5 @@
-/* The rules of document 01, and of request a) of document 02, a second time, in plain C and from the documents alone. The answers have the
- * types of janlishuk.h, so that they can be compared field by field with the library's; nothing else of the library is used. */
+/* The rules of document 01, and of requests a) and b) of document 02, a second time, in plain C and from the documents alone. The answers
+ * have the types of janlishuk.h, so that they can be compared field by field with the library's; nothing else of the library is used. */
 #ifndef RULES_H
 #define RULES_H
 
@@ -17,6 +17,24 @@ struct rules_file {
     uint64_t length;
     uint64_t base;
     uint64_t zone;
+};
+
+/* Where a point on the ground lies: the column Ix and the row Iy of its own rectangle, wx and wy in it, and fx and fy. */
+struct rules_place {
+    uint64_t ix, iy;
+    uint64_t wx, wy;
+    uint64_t fx, fy;
+};
+
+/* The rectangles that a point may be read from, in the order in which they are tried: its own and three beside it. RULES_NONE stands for
+ * none of them. */
+enum rules_from { RULES_OWN, RULES_WEST, RULES_SOUTH, RULES_SOUTH_WEST, RULES_NONE };
+
+/* A rectangle, and the column (0 to 15) and row (0 to 31) of the word in its record that is a point's south-western corner. */
+struct rules_seat {
+    uint64_t rectangle;
+    uint64_t column;
+    uint64_t row;
 };
 
 /* One of the four corners of a reading. */
@@ -70,7 +88,13 @@ bool rules_on_ground(uint64_t base, struct janlishuk_point point);
 uint64_t rules_rectangle(uint64_t base, struct janlishuk_point point);
 uint64_t rules_word(uint64_t base, struct janlishuk_point point);
 uint64_t rules_position(const uint8_t *bytes, uint64_t n);
-void rules_corners(struct rules_file file, struct janlishuk_point point, struct rules_corner corners[4]);
+uint64_t rules_record(struct rules_file file, uint64_t rectangle);
+struct rules_place rules_place(uint64_t base, struct janlishuk_point point);
+bool rules_allowed(struct rules_place place, enum rules_from from);
+struct rules_seat rules_seat(struct rules_place place, enum rules_from from);
+enum rules_from rules_taken(struct rules_file file, struct janlishuk_point point);
+void rules_corners(struct rules_file file, struct janlishuk_point point, enum rules_from from, struct rules_corner corners[4]);
+struct janlishuk_read_answer rules_read_from(struct rules_file file, struct janlishuk_point point, enum rules_from from);
 bool rules_lists_fit(struct rules_lists lists);
 uint64_t rules_square(struct janlishuk_point first, struct janlishuk_point second);
 uint64_t rules_steps(uint64_t q);

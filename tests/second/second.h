@@ -16,6 +16,8 @@
 #define MOST_BYTES (4104 * 1024)
 /* Most missing heights that are remembered of a file. */
 #define MOST_MISSING 64
+/* Most corners of rectangles that are remembered of a file. */
+#define MOST_CORNERS 24
 /* Most planted paths that are remembered of a file. */
 #define MOST_PLANTED 8
 /* Bytes of the page that each list of an upload is lent in: a page of x86-64. */
@@ -69,7 +71,8 @@ struct path {
 };
 
 /* A made file. The library is lent `lent`, which it cannot write to; the rules read `bytes`. Only the first `kept` bytes are kept where
- * the length is vast. `home` is the part of the ground where most of the questions are asked. */
+ * the length is vast. `home` is the part of the ground where most of the questions are asked. A corner is remembered by the rectangle that
+ * it is the south-western corner of. */
 struct file {
     uint8_t *bytes;
     const uint8_t *lent;
@@ -82,6 +85,8 @@ struct file {
     struct box home;
     uint32_t covered_count;
     uint16_t covered[MOST_COVERED];
+    uint32_t corner_count;
+    uint32_t corners[MOST_CORNERS];
     uint32_t missing_count;
     struct spot missing[MOST_MISSING];
     uint32_t planted_count;
@@ -148,10 +153,14 @@ void lend_file(struct file *file);
 bool same_bytes(const struct file *file);
 void take_back_file(struct file *file);
 
-/* questions.c, paths.c, surveys.c */
+/* questions.c, seams.c, paths.c, surveys.c */
 struct rules_file opened(const struct file *file, uint32_t base, uint32_t zone);
 struct janlishuk_point point_at(uint32_t base, uint32_t zone, uint32_t rectangle, uint32_t east, uint32_t north);
+uint32_t draw_part(void);
 struct janlishuk_point draw_point(const struct file *file, uint32_t base, uint32_t zone);
+struct janlishuk_point draw_seam_point(const struct file *file, uint32_t base, uint32_t zone);
+struct path draw_seam_path(const struct file *file, uint32_t base, uint32_t zone);
+struct path moved_to_edge(struct box home, uint32_t base, struct path path);
 uint32_t other_zone(uint32_t zone);
 struct question draw_question(const struct file *file);
 bool place_path(struct box box, uint32_t base, uint32_t zone, int64_t de, int64_t dn, struct path *path);
@@ -180,7 +189,7 @@ bool same_answer(enum call call, const union answer *library, const union answer
 void print_question(const struct file *file, const struct question *question);
 void print_answers(const struct question *question, const union answer *library, const union answer *rules);
 
-/* tally.c */
+/* tally.c, tally_seams.c */
 void tally_file(const struct file *file);
 void tally_answer(const struct file *file, const struct question *question, const union answer *answer);
 void print_tally(void);

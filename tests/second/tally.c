@@ -2,99 +2,18 @@
 #include <inttypes.h>
 #include <stdio.h>
 
-#include "second.h"
+#include "tally.h"
 
 #define REFUSALS 11
 #define BASES 21
 #define CODES 8
 
-/* Every kind of answer that is counted: its name here and its name in the table. */
-#define KINDS(K) \
-    K(LAND, "engine point: land") \
-    K(WATER, "engine point: water") \
-    K(CLEAR, "verdict: clear") \
-    K(BLOCKED, "verdict: blocked") \
-    K(TOUCHING, "verdict: clear, touching exactly") \
-    K(HAIR, "verdict: blocked by at most 1 mm") \
-    K(PLAN_NEITHER, "plan: both masts 0") \
-    K(PLAN_FIRST, "plan: only the first above 0") \
-    K(PLAN_SECOND, "plan: only the second above 0") \
-    K(PLAN_BOTH, "plan: both above 0") \
-    K(PLAN_NO_PAIR, "plan: no pair") \
-    K(PLAN_TOUCHING, "plan: touching exactly") \
-    K(PLAN_TIE, "plan: another clear pair of that sum") \
-    K(PLAN_LIMITED, "plan: a mast at a limit below 100") \
-    K(STEPS_ONE, "path given: N = 1") \
-    K(STEPS_LONG, "path given: N = 150 to 200") \
-    K(STEPS_MOST, "path given: N = 200") \
-    K(PATH_LONGEST, "path given: exactly 100,000 m") \
-    K(PATH_METRE, "path given: 1 m") \
-    K(NORTH_EAST, "path given: to the north-east") \
-    K(NORTH_WEST, "path given: to the north-west") \
-    K(SOUTH_EAST, "path given: to the south-east") \
-    K(SOUTH_WEST, "path given: to the south-west") \
-    K(PLACE_5, "refusal 5 at a sample above 0") \
-    K(PLACE_6, "refusal 6 at a sample above 0") \
-    K(PLACE_LAST, "refusal at the last sample") \
-    K(ROW_BEYOND, "row refused at a sample above its own") \
-    K(MAST_FIRST, "refusal 8 before one at a sample") \
-    K(SECOND_END, "refusal 4 for the second end only") \
-    K(OTHER_ZONE, "refusal 4 for the zone only") \
-    K(ONE_POINT, "refusal 7 for Q = 0") \
-    K(TOO_FAR, "refusal 7 for Q > 10,000,000,000") \
-    K(WEIGHTLESS, "reading: weightless corner, no height") \
-    K(TIE, "reading: tie in the vote") \
-    K(TOP, "reading: 8190 m, the highest") \
-    K(LAST_COLUMN, "reading: last column of a rectangle") \
-    K(LAST_ROW, "reading: last row of a rectangle") \
-    K(ROW_29, "reading: in the 29th row") \
-    K(NOWHERE, "refusal 5 for rectangle 0") \
-    K(UPLOAD_NONE, "upload given: 0 points") \
-    K(UPLOAD_ONE, "upload given: 1 point") \
-    K(UPLOAD_255, "upload given: 255 points") \
-    K(UPLOAD_256, "upload given: 256 points") \
-    K(UPLOAD_NULL, "upload given: a list is a null pointer") \
-    K(UPLOAD_EXACT, "upload given: no room after the points") \
-    K(ROOM_HEIGHTS, "upload given: room after the heights") \
-    K(ROOM_CODES, "upload given: room after the codes") \
-    K(ROOM_REFUSALS, "upload given: room after the refusals") \
-    K(ROOM_VAST, "upload given: room of 2^32 and more") \
-    K(ALL_READ, "upload given: all of 2 or more read") \
-    K(ALL_REFUSED, "upload given: all of 2 or more refused") \
-    K(FIRST_REFUSED, "upload given: first refused, others read") \
-    K(LAST_REFUSED, "upload given: last refused, others read") \
-    K(POINT_READ, "point of an upload: read") \
-    K(POINT_4, "point of an upload: refusal 4") \
-    K(POINT_5, "point of an upload: refusal 5") \
-    K(POINT_6, "point of an upload: refusal 6") \
-    K(POINT_CLEARED, "point of an upload: old height cleared") \
-    K(MISFIT_257, "refusal 10 for 257 points only") \
-    K(MISFIT_MORE, "refusal 10 for more northings only") \
-    K(MISFIT_FEWER, "refusal 10 for fewer northings only") \
-    K(MISFIT_HEIGHTS, "refusal 10 for short heights only") \
-    K(MISFIT_CODES, "refusal 10 for short codes only") \
-    K(MISFIT_REFUSALS, "refusal 10 for short refusals only") \
-    K(MISFIT_VAST, "refusal 10 for a count of 2^32 and more") \
-    K(MISFIT_NULL, "refusal 10 beside a null pointer") \
-    K(LENGTH_FIRST, "refusal 1 where 10 would hold") \
-    K(OPENED_FIRST, "refusal 2 where 10 would hold") \
-    K(INDEX_FIRST, "refusal 3 where 10 would hold") \
-    K(LOOSE, "passed: loose records") \
-    K(ABOVE, "passed: records above M") \
-    K(ALL_COVERED, "passed: every rectangle covered") \
-    K(NONE_COVERED, "passed: no rectangle covered") \
-    K(SMALLEST, "passed: 6 records") \
-    K(LARGEST, "passed: 4096 records")
-
-#define KIND_ENUM(name, text) name,
-enum kind { KINDS(KIND_ENUM) KIND_COUNT };
 #define KIND_TEXT(name, text) text,
 static const char *const kind_texts[KIND_COUNT] = {KINDS(KIND_TEXT)};
 #define DAMAGE_REFUSAL(name, text, refusal) refusal,
 static const int damage_refusals[DAMAGE_KINDS] = {DAMAGES(DAMAGE_REFUSAL)};
 
 /* The refusals that each call can give, by documents 01 and 02, a bit for each; 0 is an answer. */
-#define ONLY(number) (1u << (number))
 #define UP_TO(refusal) (ONLY((refusal) + 1) - 1)
 static const uint32_t possible[CALLS] = {
     [CHECK] = UP_TO(3), [NAME] = ONLY(0) | ONLY(2), [BASE] = ONLY(0) | ONLY(4), [READ] = UP_TO(6), [UPLOAD] = UP_TO(3) | ONLY(10),
@@ -110,7 +29,7 @@ static uint64_t bases_read[BASES];
 static uint64_t bases_found[BASES];
 
 /* Counts a kind where it holds. */
-static void count_if(bool holds, enum kind kind)
+void count_if(bool holds, enum kind kind)
 {
     if (holds)
         kinds[kind]++;
@@ -145,7 +64,8 @@ static void tally_reading(const struct file *file, const struct question *q, uin
     bool weightless = false;
     bool tie = false;
     bool top = true;
-    rules_corners(opened(file, q->base, q->zone), q->first, corners);
+    struct rules_file asked = opened(file, q->base, q->zone);
+    rules_corners(asked, q->first, rules_taken(asked, q->first), corners);
     for (int k = 0; k < 4; k++) {
         sums[corners[k].code] += corners[k].weight;
         weightless = weightless || (corners[k].weight == 0 && corners[k].elevation == RULES_NO_HEIGHT);
@@ -162,6 +82,7 @@ static void tally_reading(const struct file *file, const struct question *q, uin
     count_if(rules_rectangle(q->base, q->first) >= 2800, ROW_29);
     codes[code]++;
     bases_read[q->base / 4]++;
+    tally_taken(q->call, tally_point(asked, q->first, 0));
 }
 
 /* Counts what kind of path an answer was given for. */
@@ -216,6 +137,7 @@ static void tally_given_path(const struct file *file, const struct question *q, 
     struct janlishuk_profile_answer profile = rules_profile(opened(file, q->base, q->zone), q->first, q->second);
     struct rules_sight sight = rules_sight(&profile, rules_square(q->first, q->second));
     tally_path(q, profile.n);
+    tally_taken(q->call, tally_samples(opened(file, q->base, q->zone), q, profile.n));
     if (q->call == PLAN)
         tally_plan(q, &sight, answer->plan.first, answer->plan.second);
     if (q->call != VERDICT)
@@ -251,6 +173,8 @@ static void tally_refusal(const struct file *file, const struct question *q, uin
     if (place > 0 && second_on_ground)
         count_if(place == rules_steps(rules_square(q->first, q->second)), PLACE_LAST);
     count_if(q->call == ENGINE_ROW && place > q->a, ROW_BEYOND);
+    if (refusal >= 4 && !path)
+        tally_point(opened(file, q->base, q->zone), q->first, refusal);
 }
 
 /* Whether a list of an upload is lent as a null pointer. */
@@ -271,14 +195,27 @@ static bool any_vast(const struct survey *survey)
     return any;
 }
 
-/* Counts what each point of an upload that is given came to. */
-static void tally_points(const struct survey *survey)
+/* Point k of an upload. */
+static struct janlishuk_point point_of(const struct question *q, size_t k)
 {
+    return (struct janlishuk_point){
+        .zone = q->zone,
+        .easting = entry_before(&q->survey, LIST_EASTINGS, k),
+        .northing = entry_before(&q->survey, LIST_NORTHINGS, k),
+    };
+}
+
+/* Counts what each point of an upload that is given came to. */
+static void tally_points(const struct file *file, const struct question *q)
+{
+    const struct survey *survey = &q->survey;
     size_t points = survey->count[LIST_EASTINGS];
     size_t read = 0;
     bool refused = false;
+    uint32_t taken = 0;
     for (size_t k = 0; k < points; k++) {
         uint32_t refusal = entry_by_rules(survey, LIST_REFUSALS, k);
+        taken |= tally_point(opened(file, q->base, q->zone), point_of(q, k), refusal);
         refused = refusal != 0;
         read += refused ? 0 : 1;
         count_if(refusal == 0, POINT_READ);
@@ -287,6 +224,7 @@ static void tally_points(const struct survey *survey)
         count_if(refusal == 6, POINT_6);
         count_if(refused && entry_before(survey, LIST_HEIGHTS, k) != 0, POINT_CLEARED);
     }
+    tally_taken(UPLOAD, taken);
     count_if(points > 1 && read == points, ALL_READ);
     count_if(points > 1 && read == 0, ALL_REFUSED);
     count_if(points > 1 && read == points - 1 && entry_by_rules(survey, LIST_REFUSALS, 0) != 0, FIRST_REFUSED);
@@ -294,8 +232,9 @@ static void tally_points(const struct survey *survey)
 }
 
 /* Counts what kind of upload was given. */
-static void tally_upload(const struct survey *survey)
+static void tally_upload(const struct file *file, const struct question *q)
 {
+    const struct survey *survey = &q->survey;
     const size_t *count = survey->count;
     size_t points = count[LIST_EASTINGS];
     count_if(points == 0, UPLOAD_NONE);
@@ -308,7 +247,7 @@ static void tally_upload(const struct survey *survey)
     count_if(count[LIST_CODES] > points, ROOM_CODES);
     count_if(count[LIST_REFUSALS] > points, ROOM_REFUSALS);
     count_if(any_vast(survey), ROOM_VAST);
-    tally_points(survey);
+    tally_points(file, q);
 }
 
 /* Which of the three lists that an upload writes to are shorter than the points, a bit for each. */
@@ -372,7 +311,7 @@ void tally_answer(const struct file *file, const struct question *q, const union
     switch (q->call) {
     case CHECK: tally_check(file, q, answer->check.highest); break;
     case READ: tally_reading(file, q, answer->read.code); break;
-    case UPLOAD: tally_upload(&q->survey); break;
+    case UPLOAD: tally_upload(file, q); break;
     case ENGINE_POINT:
         count_if(answer->engine_point.kind == JANLISHUK_LAND, LAND);
         count_if(answer->engine_point.kind == JANLISHUK_WATER, WATER);
@@ -383,7 +322,7 @@ void tally_answer(const struct file *file, const struct question *q, const union
 }
 
 /* Prints a line of counts. */
-static void print_counts(const char *name, const uint64_t *counts, int count)
+void print_counts(const char *name, const uint64_t *counts, int count)
 {
     printf("%-14s", name);
     for (int k = 0; k < count; k++)
@@ -397,9 +336,10 @@ void print_tally(void)
     printf("\nrefusal             0      1      2      3      4      5      6      7      8      9     10\n");
     for (int call = 0; call < CALLS; call++)
         print_counts(call_name((enum call)call), refusals[call], REFUSALS);
-    printf("\n%-42s %6s\n", "kind of answer", "times");
+    printf("\n%-46s %6s\n", "kind of answer", "times");
     for (int kind = 0; kind < KIND_COUNT; kind++)
-        printf("%-42s %6" PRIu64 "\n", kind_texts[kind], kinds[kind]);
+        printf("%-46s %6" PRIu64 "\n", kind_texts[kind], kinds[kind]);
+    print_seams();
     printf("\nreadings given by surface code 0 to 7, readings given by base 0 to 80, bases found 0 to 80\n");
     print_counts("codes", codes, CODES);
     print_counts("read, 0 to 40", bases_read, 11);
@@ -418,7 +358,7 @@ void print_tally(void)
 }
 
 /* Prints that something never came up where its count is 0, and answers whether it did not. A number below 0 is not printed. */
-static bool lacks(uint64_t count, const char *what, const char *which, int number)
+bool lacks(uint64_t count, const char *what, const char *which, int number)
 {
     if (count > 0)
         return false;
@@ -439,6 +379,7 @@ bool tally_lacks(void)
                 any |= lacks(refusals[call][refusal], call_name((enum call)call), "refusal", refusal);
     for (int kind = 0; kind < KIND_COUNT; kind++)
         any |= lacks(kinds[kind], "kind of answer,", kind_texts[kind], -1);
+    any |= seams_lack();
     for (int code = 0; code < CODES; code++)
         any |= lacks(codes[code], "reading of", "code", code);
     for (int base = 0; base < BASES; base++) {

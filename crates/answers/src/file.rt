@@ -12,12 +12,15 @@ pub(crate) const LENGTH: usize = 9216;
 // The 16-bit numbers that are not 0: which one, counted from 1, and the number. First the index: record
 // 8 is rectangle 50's, record 7 that of rectangle 51, to the east, and record 9 that of rectangle 150, to
 // the north. Then words of the records, each 8192 times its surface code plus its elevation in metres.
-const NUMBERS: [[u32; 2]; 17] = [
+const NUMBERS: [[u32; 2]; 23] = [
     [50, 8],
     [51, 7],
     [150, 9],
     [3072, 9],
     [512 * 6 + 1, 8192 * 4 + 7],
+    [512 * 6 + 48, 8192 * 2 + 30],
+    [512 * 6 + 64, 8192 * 2 + 50],
+    [512 * 6 + 497, 8192 * 6 + 25],
     [512 * 6 + 512, 8192 * 4 + 8],
     [512 * 7 + 1, 8192 * 2],
     [512 * 7 + 4, 8192 * 2 + 1],
@@ -29,6 +32,9 @@ const NUMBERS: [[u32; 2]; 17] = [
     [512 * 7 + 162, 8192 + 8191],
     [512 * 7 + 512, 8192 + 9],
     [512 * 8 + 1, 8192 * 7 + 50],
+    [512 * 8 + 16, 8192 * 3 + 20],
+    [512 * 8 + 497, 8192 + 70],
+    [512 * 8 + 498, 8192 + 90],
     [512 * 8 + 512, 8192 * 7 + 60],
 ];
 

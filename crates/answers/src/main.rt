@@ -7,6 +7,7 @@ mod links;
 mod names;
 mod points;
 mod say;
+mod seams;
 mod surveys;
 
 // Prints the answers to all questions.
@@ -15,6 +16,7 @@ fn main() {
     names::names();
     damage::checks(file);
     points::points(&file);
+    seams::seams(file);
     surveys::surveys(&file);
     links::paths(&file);
 }

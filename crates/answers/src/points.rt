@@ -43,7 +43,7 @@ pub(crate) fn points(file: &[u8; LENGTH]) {
 }
 
 // Prints the answers at a point.
-fn ask(file: &[u8; LENGTH], asked: [u32; 3]) {
+pub(crate) fn ask(file: &[u8; LENGTH], asked: [u32; 3]) {
     say::line(b"point", &asked);
     let point = Point {
         zone: asked[0],

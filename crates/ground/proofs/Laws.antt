@@ -6,6 +6,7 @@
 --     Boundary     the southern boundaries, and the base of y
 --     Ground       which base and zone are named, what a ground that was opened is, and which points a ground holds
 --     Place        where a point lies
+--     Seam         the rectangles that a point may be read from
 pub mod Every
 pub mod Test
 pub mod Outcome
@@ -13,3 +14,4 @@ pub mod Size
 pub mod Boundary
 pub mod Ground
 pub mod Place
+pub mod Seam

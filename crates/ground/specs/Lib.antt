@@ -6,6 +6,7 @@
 --     Name         the file's letter and name
 --     Ground       the ground of a file that is opened, and which points it holds
 --     Place        where a point lies, and its corners' weights
+--     Seam         the rectangles that a point on a seam may be read from (document 02, request b)
 --     Figure       document 01's checked figures: what each claims, and P1, P3, P4 and P5
 pub mod Outcome
 pub mod Every
@@ -14,4 +15,5 @@ pub mod Boundary
 pub mod Name
 pub mod Ground
 pub mod Place
+pub mod Seam
 pub mod Figure

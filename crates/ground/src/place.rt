@@ -1,7 +1,8 @@
 // Where a point lies in its file, and what the corners around it weigh.
-ghost use Prim.Native.Nat.{_<_};
+ghost use Prim.Native.Nat.{_≤_, _<_};
 ghost use mathlib.Core.Path.{_≡_};
 ghost use Rattle.ground.specs.Place.{weightsOf, placeAt, word, wordsOf};
+ghost use Rattle.ground.specs.Seam.{westAllowed, southAllowed, moved, inWest, inSouth};
 use crate::measure::Metres;
 use crate::measure::Units;
 use crate::rectangle::Rectangle;
@@ -85,5 +86,71 @@ impl Place {
             nw: w + Rectangle::WIDE,
             ne: w + Rectangle::WIDE + 1,
         }
+    }
+
+    // Whether the point may be read from the rectangle to the west: it lies on the western edge of its
+    // own, and that is not in column 0.
+    pub fn allows_west(self) -> bool
+        ensures { λ r. ⌜ r ≡ westAllowed self ⌝ }
+    {
+        ((self.wx.0 == 0) & (self.fx.0 == 0)) & (1 <= self.rectangle.ix)
+    }
+
+    // Whether the point may be read from the rectangle to the south: it lies on the southern edge of
+    // its own, and that is not in row 0.
+    pub fn allows_south(self) -> bool
+        ensures { λ r. ⌜ r ≡ southAllowed self ⌝ }
+    {
+        ((self.wy.0 == 0) & (self.fy.0 == 0)) & (1 <= self.rectangle.iy)
+    }
+
+    // The place of the same point in another rectangle, in this column and row of it. Field by field,
+    // since the compiler would copy two fields as one number and take them apart again.
+    fn moved(self, rectangle: Rectangle, wx: Units, wy: Units) -> Place
+        ensures { λ r. ⌜ r ≡ moved self rectangle wx wy ⌝ }
+    {
+        Place {
+            rectangle,
+            wx,
+            wy,
+            fx: Metres(self.fx.0),
+            fy: Metres(self.fy.0),
+            weights: Weights {
+                sw: self.weights.sw,
+                se: self.weights.se,
+                nw: self.weights.nw,
+                ne: self.weights.ne,
+            },
+        }
+    }
+
+    // The place of the point in the rectangle to the west, in column 15.
+    pub fn in_west(self) -> Place
+        requires { ⌜ 1 ≤ self .rectangle .ix ⌝ }
+        ensures { λ r. ⌜ r ≡ inWest self ⌝ }
+    {
+        self.moved(
+            Rectangle {
+                iy: self.rectangle.iy,
+                ix: self.rectangle.ix - 1,
+            },
+            Units(Rectangle::EAST),
+            Units(self.wy.0),
+        )
+    }
+
+    // The place of the point in the rectangle to the south, in row 31.
+    pub fn in_south(self) -> Place
+        requires { ⌜ 1 ≤ self .rectangle .iy ⌝ }
+        ensures { λ r. ⌜ r ≡ inSouth self ⌝ }
+    {
+        self.moved(
+            Rectangle {
+                iy: self.rectangle.iy - 1,
+                ix: self.rectangle.ix,
+            },
+            Units(self.wx.0),
+            Units(Rectangle::NORTH),
+        )
     }
 }

@@ -202,7 +202,7 @@ upload-call =
       ordered = λ κs (file, (base, (zone, lent))). upload-order (file .now) base zone (contents lent);
     })
 
--- `record`: 1 to 5. It has no number: the part is empty exactly when a refusal holds or the rectangle is not covered.
+-- `record`: 1 to 5. It has no number: the part is empty exactly when one of these holds.
 abbrev pub record-call : Entry
 record-call =
     entered record-at.Asked record-at.Learnt (record {

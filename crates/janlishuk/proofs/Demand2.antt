@@ -7,7 +7,6 @@ use mathlib.Core.List.{List}
 use Prim.Native.Nat.{ℕ, _+_, _≤_, _<_}
 use native.Mathlib.Omega.{arith}
 use Rattle.ground.specs.Outcome.{given, refusalNumber}
-use Rattle.ground.specs.Boundary.{rows}
 use Rattle.ground.specs.declared.point.Point.{Point}
 use Rattle.ground.proofs.Laws.Outcome.{step}
 use Rattle.terrain.specs.Check.{checked}
@@ -60,14 +59,14 @@ module _ (file after : List ℕ) (b z : ℕ) (c : CheckAnswer) (checks : Checks 
 
   -- A point of the file's zone and on its ground:
   module _ (p : Point) (on : OnGround b z p) (r : ReadAnswer) (reads : Reads file after b z p r) where
-    -- "is read exactly when its rectangle is covered and no corner that weighs in lacks a height."
+    -- "is read exactly when its rectangle is covered and no corner that weighs in lacks a height." Covered is one of the rectangles that it may be read from.
     pub read-exactly : (r .refusal ≡ 0) ↔ Readable file (placed b z p)
     read-exactly =
         let law = reading-law.read-exactly file b z (terrain .0) (terrain .1) p (on-ground b z p .1 on) in
         rw (reads .0) ((λ e. law .0 (was-given (reading-order file b z p) e)), λ k. ap refusalNumber (law .1 k .1))
 
-    -- "The reading is the exact four-corner mean of that rectangle's own record, within its weighing corners."
-    pub reading-is-mean : r .refusal ≡ 0 → IsMean file (rows b) (placed b z p) (record { height = r .height; code = r .code })
+    -- "The reading is the exact four-corner mean of that rectangle's own record, within its weighing corners." The record is the one taken.
+    pub reading-is-mean : r .refusal ≡ 0 → IsMean file b z p (record { height = r .height; code = r .code })
     reading-is-mean e =
         let g = was-given (reading-order file b z p) (rw (reads .0) at e) in
         rw (reads .0, g .1) (reading-law.read-mean file b z (terrain .0) (terrain .1) p (on-ground b z p .1 on) (g .0) (g .1))

@@ -4,22 +4,27 @@
 -- the program. Assumes nothing.
 use mathlib.Core.Path.{_≡_, refl, _∙_, ap}
 use mathlib.Core.Logic.{_⊎_, inl, inr, _↔_}
-use mathlib.Core.Bool.{true, false}
+use mathlib.Core.Bool.{Bool, true, false, _&&_, and-eq-true-iff}
 use mathlib.Core.List.{List, [], _∷_, _++_}
 use Prim.Native.Nat.{ℕ, zero, suc, _+_, _-_, _*_, _/_, _%_, _≤_, _<_}
 use native.Mathlib.Omega.{arith}
 use lib.Dec.{eqb·suc-zero}
 use lib.ListN.{length, getD}
 use Rattle.ground.specs.Outcome.{given}
-use Rattle.ground.specs.Measure.{metres}
+use Rattle.ground.specs.Measure.{metres, units}
 use Rattle.ground.specs.Boundary.{yB, rows, named}
 use Rattle.ground.specs.Place.{number, wordsOf, weightsOf, placeAt, placeOf}
+use Rattle.ground.specs.Seam.{westAllowed, southAllowed, inWest, inSouth, when, beside, allowed}
 use Rattle.ground.specs.declared.point.Point.{Point}
+use Rattle.ground.specs.declared.place.Place.{Place}
+use Rattle.ground.proofs.Laws.Seam as seam
+use Rattle.ground.proofs.Laws.Seam.{OnEdge, on-west, on-south, Four, four-is}
 use Rattle.index.specs.Bytes.{nth, records, Whole}
 use Rattle.index.specs.Index.{position, Passes}
-use Rattle.terrain.specs.Record.{entry, taken, Uncovered}
+use Rattle.terrain.specs.Record.{entry, firstCovered, taken, Uncovered}
 use Rattle.terrain.specs.declared.record.Taken.{Taken}
-use Rattle.terrain.proofs.Laws.Taken.{taken-own, uncovered-is}
+use Rattle.terrain.proofs.Laws.Checked.{not-covered}
+use Rattle.terrain.proofs.Laws.Taken.{covered-taken, past-place, uncovered-is}
 use Rattle.survey.specs.Survey.{Lists, fiveLists, mostPoints, pointCount, pointAt, Unfit}
 use Rattle.survey.proofs.Laws.Lists.{most-points-is, count-is, point-is, lists-is, ListsFit, fits-exactly}
 use Rattle.path.specs.Path.{Q, N, pathOf, sample, farthest, tallest}
@@ -42,8 +47,14 @@ module _ (b z : ℕ) (p : Point) where
   abbrev Iy : ℕ
   Iy = (y - yB b .0) / 31
 
+  abbrev wx : ℕ
+  wx = x - 250 - 15 * Ix
+
+  abbrev wy : ℕ
+  wy = y - yB b .0 - 31 * Iy
+
   abbrev w : ℕ
-  w = 16 * (y - yB b .0 - 31 * Iy) + (x - 250 - 15 * Ix) + 1
+  w = 16 * wy + wx + 1
 
   abbrev fx : ℕ
   fx = p .easting .0 % 500
@@ -87,19 +98,141 @@ module _ (file : List ℕ) where
   own-position zero h = absurd (omega arith)
   own-position (suc n) h = rw eqb·suc-zero
 
-  -- 5: no record is taken for a point exactly if its rectangle is rectangle 0, or its position holds 0
-  pub uncovered-means : (b z : ℕ) (p : Point) →
-      let n = 100 * Iy b z p + Ix b z p in Uncovered file (placed b z p) ↔ ((n ≡ 0) ⊎ (at n ≡ 0))
-  unfolding nth placeOf placeAt
-  uncovered-means b z p = uncovered-is file (placed b z p)
+  -- rectangle n is not covered: it is rectangle 0, or its position holds 0
+  abbrev NotCovered : ℕ → Type 0
+  NotCovered n = (n ≡ 0) ⊎ (at n ≡ 0)
 
-  -- a point is read where it lies, from the record that its own rectangle's position names
-  pub taken-means : (b z : ℕ) (p : Point) (t : Taken) → taken file (placed b z p) ≡ given t
-      → (t .place ≡ placed b z p) × (t .entry ≡ entry file (100 * Iy b z p + Ix b z p))
-  unfolding placeOf placeAt
-  taken-means b z p t e =
-      let own = taken-own file (placed b z p) t e .1 in
-      (ap (λ (u : Taken). u .place) own, ap (λ (u : Taken). u .entry) own)
+  pub not-covered-means : (n : ℕ) → (entry file n ≡ 0) ↔ NotCovered n
+  unfolding nth
+  not-covered-means n = not-covered file n
+
+  covered-entry : (n : ℕ) → (NotCovered n → ⊥) → entry file n ≡ at n
+  covered-entry zero c = absurd (c (inl refl))
+  covered-entry (suc n) c = own-position (suc n) (omega arith)
+
+  -- a test fails, or what follows from it holds
+  either-way : {C : Type 0} (t : Bool) → (t ≡ true → C) → (t ≡ false) ⊎ C
+  either-way true f = inr (f refl)
+  either-way false f = inl refl
+
+  -- Document 02, request b), which says from which rectangle a point is read: "When the own rectangle isn't covered, a point with wx = 0 and fx = 0 may be read
+  -- from column 15 of the rectangle to the west, one with wy = 0 and fy = 0 from row 31 of the one to the south, and one with all four 0 also from the corner
+  -- of the south-west one. Try own, west, south, south-west, and take the first covered. No rectangle lies west of column 0 or south of row 0, and rectangle 0
+  -- stays uncovered."
+  module _ (b z : ℕ) (p : Point) where
+    abbrev OnWest : Type 0
+    OnWest = (wx b z p ≡ 0) × (fx b z p ≡ 0) × (1 ≤ Ix b z p)
+
+    abbrev OnSouth : Type 0
+    OnSouth = (wy b z p ≡ 0) × (fy b z p ≡ 0) × (1 ≤ Iy b z p)
+
+    -- the numbers of the four rectangles
+    abbrev own : ℕ
+    own = 100 * Iy b z p + Ix b z p
+
+    abbrev west : ℕ
+    west = 100 * Iy b z p + (Ix b z p - 1)
+
+    abbrev south : ℕ
+    south = 100 * (Iy b z p - 1) + Ix b z p
+
+    abbrev south-west : ℕ
+    south-west = 100 * (Iy b z p - 1) + (Ix b z p - 1)
+
+    -- the record that the position of rectangle 100 iy + ix names, and the point at this row and column of it
+    abbrev standing : (iy ix row column : ℕ) → Taken
+    standing iy ix row column =
+        record {
+          entry = at (100 * iy + ix);
+          place = record {
+            rectangle = record { iy = iy; ix = ix };
+            wx = units column;
+            wy = units row;
+            fx = metres (fx b z p);
+            fy = metres (fy b z p);
+            weights = placed b z p .weights;
+          };
+        }
+
+    edge : (w f i : ℕ) → (w ≡ 0) × (f ≡ 0) × (1 ≤ i) ↔ OnEdge w f i
+    edge w f i = ((λ o. record { units = o .0; metres = o .1; beyond = o .2 }), λ o. (o .units, o .metres, o .beyond))
+
+    -- which rectangles are allowed, in the document's letters
+    west-is : (westAllowed (placed b z p) ≡ true) ↔ OnWest
+    unfolding placeOf placeAt
+    west-is = ((λ e. edge _ _ _ .1 (on-west (placed b z p) .0 e)), λ o. on-west (placed b z p) .1 (edge _ _ _ .0 o))
+
+    south-is : (southAllowed (placed b z p) ≡ true) ↔ OnSouth
+    unfolding placeOf placeAt
+    south-is = ((λ e. edge _ _ _ .1 (on-south (placed b z p) .0 e)), λ o. on-south (placed b z p) .1 (edge _ _ _ .0 o))
+
+    -- past the own rectangle, which is not covered
+    past-own : NotCovered own → taken file (placed b z p) ≡ firstCovered file (beside (placed b z p))
+    unfolding placeOf placeAt taken allowed
+    past-own n = past-place file {c = true} (placed b z p) (beside (placed b z p)) (inr (not-covered-means own .1 n))
+
+    pub own-taken : (NotCovered own → ⊥) → taken file (placed b z p) ≡ given (standing (Iy b z p) (Ix b z p) (wy b z p) (wx b z p))
+    unfolding placeOf placeAt taken allowed
+    own-taken c =
+        rw (← covered-entry own c) (covered-taken file {c = true} (placed b z p) (beside (placed b z p)) refl (λ e. c (not-covered-means own .0 e)))
+
+    pub west-taken : NotCovered own → OnWest → (NotCovered west → ⊥) → taken file (placed b z p) ≡ given (standing (Iy b z p) (Ix b z p - 1) (wy b z p) 15)
+    unfolding placeOf placeAt
+    west-taken n o c =
+        past-own n ∙ rw (← covered-entry west c) (covered-taken file (inWest (placed b z p)) _ (west-is .1 o) (λ e. c (not-covered-means west .0 e)))
+
+    -- past the rectangle to the west, which is not allowed or not covered
+    past-west : NotCovered own → (OnWest → NotCovered west)
+        → taken file (placed b z p)
+        ≡ firstCovered file (when (southAllowed (placed b z p)) (inSouth (placed b z p))
+        (when (westAllowed (placed b z p) && southAllowed (placed b z p)) (inSouth (inWest (placed b z p))) []))
+    unfolding placeOf placeAt
+    past-west n w = past-own n ∙ past-place file (inWest (placed b z p)) _ (either-way (westAllowed (placed b z p)) λ e. not-covered-means west .1 (w (west-is .0 e)))
+
+    pub south-taken : NotCovered own → (OnWest → NotCovered west) → OnSouth → (NotCovered south → ⊥)
+        → taken file (placed b z p) ≡ given (standing (Iy b z p - 1) (Ix b z p) 31 (wx b z p))
+    unfolding placeOf placeAt
+    south-taken n w o c =
+        past-west n w ∙ rw (← covered-entry south c) (covered-taken file (inSouth (placed b z p)) _ (south-is .1 o) (λ e. c (not-covered-means south .0 e)))
+
+    pub corner-taken : NotCovered own → (OnWest → NotCovered west) → (OnSouth → NotCovered south) → OnWest → OnSouth → (NotCovered south-west → ⊥)
+        → taken file (placed b z p) ≡ given (standing (Iy b z p - 1) (Ix b z p - 1) 31 15)
+    unfolding placeOf placeAt
+    corner-taken n w v o q c =
+        past-west n w
+        ∙ past-place file (inSouth (placed b z p)) _ (either-way (southAllowed (placed b z p)) λ e. not-covered-means south .1 (v (south-is .0 e)))
+        ∙ rw (← covered-entry south-west c)
+        (covered-taken file (inSouth (inWest (placed b z p))) [] (and-eq-true-iff _ _ .1 (west-is .1 o, south-is .1 q))
+        (λ e. c (not-covered-means south-west .0 e)))
+
+    -- 5: "when none of the allowed rectangles is covered"
+    pub record NoneCovered : Type 0 where
+      pub of-own : NotCovered own
+      pub of-west : OnWest → NotCovered west
+      pub of-south : OnSouth → NotCovered south
+      pub of-corner : OnWest → OnSouth → NotCovered south-west
+
+    pub uncovered-means : Uncovered file (placed b z p) ↔ NoneCovered
+    unfolding placeOf placeAt
+    uncovered-means =
+        let law = uncovered-is file (placed b z p) in (
+          (λ none.
+              let at : (u : Place) → Four (placed b z p) u → NotCovered (number (u .rectangle)) =
+              λ u f. not-covered-means (number (u .rectangle)) .0 (law .0 none u (four-is (placed b z p) u .1 f)) in
+              record {
+                of-own = at _ (seam.own refl);
+                of-west = λ o. at _ (seam.west (west-is .1 o) refl);
+                of-south = λ o. at _ (seam.south (south-is .1 o) refl);
+                of-corner = λ o q. at _ (seam.corner (west-is .1 o) (south-is .1 q) refl);
+              }),
+          λ k. law .1 (λ u a. not-covered-means (number (u .rectangle)) .1 (go k u (four-is (placed b z p) u .0 a))),
+        )
+      where
+        go : NoneCovered → (u : Place) → Four (placed b z p) u → NotCovered (number (u .rectangle))
+        go k u (seam.own e) = rw e (k .of-own)
+        go k u (seam.west w e) = rw e (k .of-west (west-is .0 w))
+        go k u (seam.south v e) = rw e (k .of-south (south-is .0 v))
+        go k u (seam.corner w v e) = rw e (k .of-corner (west-is .0 w) (south-is .0 v))
 
   -- 1: length not 1024 times a number from 6 to 4096
   pub record Long : Type 0 where

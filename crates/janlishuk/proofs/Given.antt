@@ -15,6 +15,7 @@ use Rattle.ground.specs.Outcome.{Outcome, given, refused}
 use Rattle.ground.specs.Measure.{metres, inUnits}
 use Rattle.ground.specs.Boundary.{named, yB}
 use Rattle.ground.specs.Name.{nameOf}
+use Rattle.ground.specs.Ground.{groundOf}
 use Rattle.ground.specs.declared.point.Point.{Point}
 use Rattle.ground.specs.declared.name.NameAnswer.{NameAnswer}
 use Rattle.ground.specs.declared.table.BaseAnswer.{BaseAnswer}
@@ -27,7 +28,7 @@ use Rattle.terrain.specs.Record.{recordIn, recordFor}
 use Rattle.terrain.specs.declared.check.CheckAnswer.{CheckAnswer}
 use Rattle.terrain.specs.declared.record.Taken.{Taken}
 use Rattle.terrain.proofs.Laws.Checked.{checked-is}
-use Rattle.terrain.proofs.Laws.Taken.{record-is}
+use Rattle.terrain.proofs.Laws.Taken.{taken-holds, record-is}
 use Rattle.terrain.proofs.Laws.Means.{record-given}
 use Rattle.reading.specs.Reading.{reading}
 use Rattle.reading.specs.Engine.{metresOf}
@@ -139,9 +140,11 @@ record-is-taken f g r b z p hands some = go (recordFor (f .now) b z p) refl
     go : (o : Outcome Taken) → recordFor (f .now) b z p ≡ o → IsRecord f r b z p
     go (given t) e =
         let c = step (checked (f .now) b z) (λ u. recordIn (f .now) u p) t e in
+        let at = taken-at (f .now) b z (c .value) (c .gave) p t (c .then) in
         record {
           source = t;
-          taken = taken-at (f .now) b z (c .value) (c .gave) p t (c .then) .1;
+          taken = at .1;
+          holds = taken-holds (f .now) (groundOf b z) p (at .0) t (at .1);
           named = record-is (record { base = b; zone = z; gave = c .gave }) p t (c .then) .entry;
           long = rw (hands .0 .bytes, e) (record-given (f .now) b z p t e);
           byte = λ k h. rw (hands .0 .bytes, e) (record-byte (f .now) (t .entry) k h);

@@ -5,6 +5,7 @@ pub mod Calls
 pub mod Demand2
 pub mod Demand3
 pub mod Survey
+pub mod Seam
 pub mod Given
 pub mod Document
 pub mod Figures

@@ -6,7 +6,6 @@ use mathlib.Core.List.{List}
 use Prim.Native.Nat.{ℕ, _<_}
 use lib.ListN.{length, getD}
 use Rattle.ground.specs.Outcome.{Outcome, given, refused, refusalNumber, refusalPlace, filledBy}
-use Rattle.ground.specs.Boundary.{rows}
 use Rattle.ground.specs.declared.point.Point.{Point}
 use Rattle.ground.proofs.Laws.Outcome.{refused-is}
 use Rattle.terrain.specs.Check.{checked}
@@ -122,12 +121,12 @@ module _ (file after : List ℕ) (b z : ℕ) (c : CheckAnswer) (checks : Checks 
   at : EntryIs left i 0 (answerOf file b z lent i)
   at = at-entry file after b z lent left u uploads is i 0 own
 
-  -- "is read exactly when its rectangle is covered and no corner that weighs in lacks a height."
+  -- "is read exactly when its rectangle is covered and no corner that weighs in lacks a height." Covered is one of the rectangles that it may be read from.
   pub entry-exactly : (getD (left .refusals) i 0 ≡ 0) ↔ Readable file (placed b z (pointAt z lent i))
   entry-exactly = rw (at .refusal) (read-exactly file after b z c checks passes (pointAt z lent i) on _ (refl, checks .1))
 
-  -- "The reading is the exact four-corner mean of that rectangle's own record, within its weighing corners."
+  -- "The reading is the exact four-corner mean of that rectangle's own record, within its weighing corners." The record is the one taken.
   pub entry-is-mean : getD (left .refusals) i 0 ≡ 0
-      → IsMean file (rows b) (placed b z (pointAt z lent i)) (record { height = getD (left .heights) i 0; code = getD (left .codes) i 0 })
+      → IsMean file b z (pointAt z lent i) (record { height = getD (left .heights) i 0; code = getD (left .codes) i 0 })
   entry-is-mean e =
       rw (at .height, at .code) (reading-is-mean file after b z c checks passes (pointAt z lent i) on _ (refl, checks .1) (rw (at .refusal) at e))

@@ -9,6 +9,8 @@ use lib.ListN.{length, getD}
 use denote.Ref.{RefT}
 use Rattle.ground.specs.Outcome.{given}
 use Rattle.ground.specs.Measure.{metres}
+use Rattle.ground.specs.Ground.{groundOf}
+use Rattle.ground.specs.Seam.{GridHolds}
 use Rattle.ground.specs.declared.point.Point.{Point}
 use Rattle.terrain.specs.Record.{entry, taken, rectangleOf}
 use Rattle.terrain.specs.declared.record.Taken.{Taken}
@@ -74,10 +76,12 @@ pub record ClearPair (file after : List ℕ) (b z : ℕ) (p q : Point) (la lb ma
   pub second : mb ≤ lb
   pub clear : (v : VerdictAnswer) → Judges file after b z p q ma mb v → v .clear ≡ 1
 
--- a record r that is handed back of a file f is that of the rectangle taken for the point: 1024 bytes of the caller's own, from byte 1024 (entry - 1) on
+-- a record r that is handed back of a file f is that of the rectangle taken for the point, whose grid holds it: 1024 bytes of the caller's own, from byte
+-- 1024 (entry - 1) on
 pub record IsRecord (f r : RefT (List ℕ)) (b z : ℕ) (p : Point) : Type 0 where
   pub source : Taken
   pub taken : taken (f .now) (placed b z p) ≡ given source
+  pub holds : GridHolds (groundOf b z) p (source .place)
   pub named : source .entry ≡ entry (f .now) (rectangleOf source)
   pub long : length (r .now) ≡ 1024
   pub byte : (k : ℕ) → k < 1024 → getD (r .now) k 0 ≡ getD (f .now) (1024 * (source .entry - 1) + k) 0

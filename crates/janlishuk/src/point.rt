@@ -30,7 +30,7 @@ pub extern "C" fn janlishuk_read(file: &[u8], base: u32, zone: u32, point: Point
 }
 
 // The record that a point is read from, a part of the file: empty exactly where refusal 1, 2, 3 or 4
-// holds or the rectangle is not covered.
+// holds or none of the rectangles that it may be read from is covered.
 pub fn record(file: &[u8], base: u32, zone: u32, point: Point) -> &[u8]
     ensures { λ r. ⌜ HandsBack (file .entry) (file .exit) base zone point r ⌝ }
 {

@@ -1,6 +1,7 @@
 -- Demand 2 of a point: "In a file that passes the check, a point of the file's zone and on its ground is read exactly when its rectangle is covered and no
--- corner that weighs in lacks a height. The reading is the exact four-corner mean of that rectangle's own record, within its weighing corners."
--- proofs/Laws/Reading.antt shows that every reading meets it. Assumes nothing.
+-- corner that weighs in lacks a height. The reading is the exact four-corner mean of that rectangle's own record, within its weighing corners." Since
+-- document 02, request b), "covered" says that one of the allowed rectangles is, and "own record" is the record taken. proofs/Laws/Reading.antt shows
+-- that every reading meets it. Assumes nothing.
 use mathlib.Core.Path.{_≡_}
 use mathlib.Core.Logic.{_⊎_}
 use mathlib.Core.Bool.{true, cond}
@@ -9,7 +10,11 @@ use Prim.Native.Nat.{ℕ, _+_, _*_, _≤_, _<_}
 use lib.Dec.{eqb}
 use lib.ListN.{length}
 use Rattle.ground.specs.Outcome.{given}
-use Rattle.ground.specs.Place.{wordsOf, AtEach}
+use Rattle.ground.specs.Boundary.{rows}
+use Rattle.ground.specs.Ground.{groundOf}
+use Rattle.ground.specs.Place.{wordsOf, placeOf, AtEach}
+use Rattle.ground.specs.Seam.{GridHolds}
+use Rattle.ground.specs.declared.point.Point.{Point}
 use Rattle.ground.specs.declared.place.Place.{Place}
 use Rattle.ground.specs.declared.place.Words.{Words}
 use Rattle.ground.specs.declared.place.Weights.{Weights}
@@ -69,6 +74,8 @@ pub record Mean (file : List ℕ) (rows : ℕ) (t : Taken) (r : Reading) : Type 
   pub named : t .entry ≡ entry file (rectangleOf t)
   pub past : 7 ≤ t .entry
   pub long : length (recordBytes file (t .entry)) ≡ 1024
+  -- that has the corners that weigh in among its 512 words,
+  pub corners : AtEach (λ w weight. 0 < weight → (1 ≤ w) × (w ≤ 512)) (wordsOf (t .place)) (t .place .weights)
   -- and its own: no other rectangle of the file has it;
   pub own : (m : ℕ) → m < 100 * rows → covered file m ≡ true → entry file m ≡ t .entry → m ≡ rectangleOf t
   -- the height is within the weighing corners, whatever bounds they have in common;
@@ -78,8 +85,9 @@ pub record Mean (file : List ℕ) (rows : ℕ) (t : Taken) (r : Reading) : Type 
   -- the code has the greatest sum of weights, ties to the smaller
   pub code : Greatest (codeSum (wordOf file (rectangleOf t)) (wordsOf (t .place)) (t .place .weights)) 7 (r .code)
 
--- the reading r at this place is the mean of the record taken
-pub record IsMean (file : List ℕ) (rows : ℕ) (s : Place) (r : Reading) : Type 0 where
+-- the reading r of a point p in the file of base b and zone z is the mean of the record taken, whose rectangle's grid holds the point
+pub record IsMean (file : List ℕ) (b z : ℕ) (p : Point) (r : Reading) : Type 0 where
   pub source : Taken
-  pub taken : taken file s ≡ given source
-  pub mean : Mean file rows source r
+  pub taken : taken file (placeOf (groundOf b z) p) ≡ given source
+  pub holds : GridHolds (groundOf b z) p (source .place)
+  pub mean : Mean file (rows b) source r

@@ -3,7 +3,7 @@
 --     Taken        the record that a point is read from
 --     Word         a word is its code and its elevation
 --     Means        answers that mean the same are the same
---     Witness      some file passes
+--     Witness      some file passes, and the record of a rectangle is taken for each of its four corners
 pub mod Checked
 pub mod Taken
 pub mod Word

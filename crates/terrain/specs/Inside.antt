@@ -8,7 +8,8 @@ use lib.ListN.{length}
 use Rattle.ground.specs.Outcome.{Outcome, given, unless}
 use Rattle.ground.specs.Place.{wordsOf, AtEach}
 use Rattle.ground.specs.declared.Ground.{Ground}
-use Rattle.index.specs.Index.{position, highest, indexPasses}
+use Rattle.index.specs.Bytes.{indexBytes}
+use Rattle.index.specs.Index.{highest, indexPasses}
 use Rattle.terrain.specs.declared.check.Terrain.{Terrain}
 use Rattle.terrain.specs.declared.record.Taken.{Taken}
 
@@ -16,10 +17,9 @@ use Rattle.terrain.specs.declared.record.Taken.{Taken}
 unfoldable pub checkedOn : List ℕ → Ground → Outcome Terrain
 checkedOn file g = unless (not (indexPasses file (g .rows))) 3 (given (record { ground = g; highest = highest file }))
 
--- r is what the index says of rectangle n: rectangle 0 has no position, and another has the number in its own
-pub record IsEntry (file : List ℕ) (n r : ℕ) : Type 0 where
-  pub none : n ≡ 0 → r ≡ 0
-  pub some : 1 ≤ n → r ≡ position file n
+-- the index lies in the file, and n is the number of a position of it, or 0
+abbrev pub InIndex : List ℕ → ℕ → Type 0
+InIndex file n = (n < 3072) × (indexBytes ≤ length file)
 
 -- The record that a point is read from lies in the file past the index, the corners that weigh in are words of it, and the weights add up to 250,000.
 pub record Reaches (file : List ℕ) (t : Taken) : Type 0 where

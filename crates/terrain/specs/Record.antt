@@ -1,13 +1,14 @@
--- The records of a file. Document 01, "Bytes of a file": which rectangles are covered, and the record that a point is read from.
--- Assumes nothing.
+-- The records of a file: which rectangles are covered (document 01, "Bytes of a file"), and the record that a point is read from (document 02,
+-- request b). Assumes nothing.
 use mathlib.Core.Path.{_≡_}
 use mathlib.Core.Bool.{Bool, cond, not}
-use mathlib.Core.List.{List, []}
+use mathlib.Core.List.{List, [], _∷_}
 use Prim.Native.Nat.{ℕ, _+_}
 use lib.Dec.{eqb}
 use denote.Ref.{RefT}
 use Rattle.ground.specs.Outcome.{Outcome, given, refused, unless, _andThen_, filledBy}
 use Rattle.ground.specs.Place.{number, located}
+use Rattle.ground.specs.Seam.{allowed}
 use Rattle.ground.specs.declared.point.Point.{Point}
 use Rattle.ground.specs.declared.place.Place.{Place}
 use Rattle.index.specs.Bytes.{recordStart, recordBytes, Part}
@@ -26,18 +27,29 @@ entry file n = cond (eqb n 0) 0 (position file n)
 abbrev pub covered : List ℕ → ℕ → Bool
 covered file n = not (eqb (entry file n) 0)
 
--- The record that a point is read from, and where in that record's rectangle the point lies: its own rectangle's, or refusal 5 where that is not
--- covered.
+-- the record of the rectangle that this place lies in, whose number is the rectangle's entry
+abbrev pub recordAt : List ℕ → Place → Taken
+recordAt file s = record { entry = entry file (number (s .rectangle)); place = s }
+
+-- of these places the first whose rectangle is covered, with its record; refusal 5 where none is
+unfoldable pub firstCovered : List ℕ → List Place → Outcome Taken
+firstCovered file [] = refused 5 0
+firstCovered file (s ∷ rest) = cond (covered file (number (s .rectangle))) (given (recordAt file s)) (firstCovered file rest)
+
+-- The record that a point is read from, and where in that record's rectangle the point lies. Document 02, request b): the first covered of the allowed
+-- rectangles, own, west, south, south-west; 5 when none of them is covered.
 unfoldable pub taken : List ℕ → Place → Outcome Taken
-taken file s =
-    let n : ℕ = number (s .rectangle) in
-    unless (not (covered file n)) 5 (given (record { entry = entry file n; place = s }))
+taken file s = firstCovered file (allowed s)
+
+-- what was taken before request b): the own rectangle's record, or refusal 5. `taken-as-before` says where that stays
+abbrev pub takenBefore : List ℕ → Place → Outcome Taken
+takenBefore file s = unless (not (covered file (number (s .rectangle)))) 5 (given (recordAt file s))
 
 -- the number of the rectangle whose record is taken
 abbrev pub rectangleOf : Taken → ℕ
 rectangleOf t = number (t .place .rectangle)
 
--- no record is taken for a point at this place: its rectangle is not covered
+-- no record is taken for a point at this place: none of the allowed rectangles is covered
 abbrev pub Uncovered : List ℕ → Place → Type 0
 Uncovered file s = (t : Taken) → taken file s ≡ given t → ⊥
 

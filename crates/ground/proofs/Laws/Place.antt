@@ -1,6 +1,5 @@
--- The place of a point that its ground holds: it gives the point back, its rectangle is one of the file's, and the words of its corners are
--- words of a record; and the weights balance at the point and add up to 250,000. From the laws over the sizes, of the boundaries and of the
--- ground. Assumes nothing.
+-- The place of a point that its ground holds gives the point back; and the weights balance at the point and add up to 250,000. From the laws over the
+-- sizes and of the ground. Assumes nothing.
 use mathlib.Core.Path.{_≡_, refl}
 use mathlib.Core.Bool.{true}
 use Prim.Native.Nat.{ℕ, _+_, _-_, _*_, _/_, _≤_, _<_}
@@ -52,20 +51,6 @@ lies g p h =
       fy = le-of-suc-le-suc (y .metres);
       weights = refl;
     }
-
--- all four corners are among the 512 words of a record
-pub word-within : (g : Ground) (p : Point) → holds g p ≡ true → word (placeOf g p) + 17 ≤ 512
-word-within g p h = omega (arith, lies g p h)
-
--- the rectangle is one of the file's
-pub number-within : (b z : ℕ) (p : Point) → holds (groundOf b z) p ≡ true → number (placeOf (groundOf b z) p .rectangle) < 100 * rows b
-unfolding placeOf placeAt
-number-within b z p h =
-    let t = held (groundOf b z) p h in
-    let l = lies (groundOf b z) p h in
-    let y = inUnits (p .northing) .0 - yB b .0 in
-    let iy : y / 31 < rows b = div-lt-iff-lt-mul (lit< tt) .1 (omega (arith, rows-high b)) in
-    omega arith
 
 -- the weights balance at the point, fx metres east and fy metres north of the south-west corner, and add up to 250,000
 pub record Weighs (fx fy : Metres) (w : Weights) : Type 0 where

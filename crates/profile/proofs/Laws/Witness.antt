@@ -6,9 +6,10 @@ use Rattle.ground.specs.Measure.{metres}
 use Rattle.ground.specs.Boundary.{yB, rows, named}
 use Rattle.ground.specs.Ground.{onGround, holds}
 use Rattle.ground.specs.Place.{weightsOf, placeAt, placeOf}
+use Rattle.ground.specs.Seam.{allowed}
 use Rattle.ground.specs.declared.point.Point.{Point}
 use Rattle.index.specs.Bytes.{nth, recordBytes}
-use Rattle.terrain.specs.Record.{entry, taken, recordIn}
+use Rattle.terrain.specs.Record.{entry, firstCovered, taken, recordIn}
 use Rattle.reading.specs.Corner.{corner, cornersAt, anyLacksHeight}
 use Rattle.reading.specs.Reading.{readCorners, readTaken, pointIn}
 use Rattle.terrain.proofs.Laws.Checked.{check-passes}
@@ -27,7 +28,7 @@ east = record { zone = 17; easting = metres 501000; northing = metres 4433000 }
 
 -- the path is read
 pub some-linked : (l : Link) × (linked file 40 17 (askPath west east) ≡ given l)
-unfolding yB rows named onGround holds weightsOf placeAt placeOf nth recordBytes entry taken recordIn corner cornersAt anyLacksHeight
+unfolding yB rows named onGround holds weightsOf placeAt placeOf allowed nth recordBytes entry firstCovered taken recordIn corner cornersAt anyLacksHeight
     readCorners readTaken pointIn Q firstFrom N along sample pathOn upTo linkIn linked file
 some-linked =
     (_, ap (λ o. o andThen λ t. pathOn (t .ground) (askPath west east) andThen linkIn file t) (check-passes file 40 17 refl some-passes))

@@ -27,7 +27,7 @@ use Rattle.terrain.specs.Word.{wordOf}
 use Rattle.terrain.specs.declared.check.Terrain.{Terrain}
 use Rattle.terrain.specs.declared.record.Taken.{Taken}
 use Rattle.terrain.proofs.Laws.Checked.{checked-is, gave-is, own}
-use Rattle.terrain.proofs.Laws.Taken.{IsTaken, taken-is, place-is}
+use Rattle.terrain.proofs.Laws.Taken.{IsTaken, taken-holds, taken-is, place-is}
 use Rattle.reading.specs.Corner.{corner, cornersAt, cornersOf, anyLacksHeight, exactHeight, mostHeight}
 use Rattle.reading.specs.Vote.{sumFor, vote}
 use Rattle.reading.specs.Reading.{readCorners, readTaken, pointIn, reading}
@@ -132,6 +132,7 @@ module _ (file : List ℕ) (b z : ℕ) (t : Terrain) (c : checked file b z ≡ g
         named = is .entry;
         past = is .reaches .past;
         long = record-long file (u .entry) (omega (arith, is .reaches .past)) (is .reaches .recorded);
+        corners = each (λ x f l. (f .0, f .1 l)) (is .reaches .words);
         own = λ m l covered same. own (checked-is file b z t c .passes) m (rectangleOf u) l (is .within) covered (is .covered) (same ∙ is .entry);
         within = λ lo hi a. let x = between lo hi (is .reaches .all) (rw (← is .entry) at a) in (x .least, x .most);
         most = between 0 8190 (is .reaches .all) (each (λ x f l. omega (arith, f l)) heights) .most;
@@ -139,14 +140,19 @@ module _ (file : List ℕ) (b z : ℕ) (t : Terrain) (c : checked file b z ≡ g
       }
 
   -- what it is read as is that mean
-  pub read-mean : (r : Reading) → reading file b z p ≡ given r → IsMean file (rows b) s r
+  pub read-mean : (r : Reading) → reading file b z p ≡ given r → IsMean file b z p r
   unfolding readTaken readCorners
   read-mean r e =
       let v = step (taken file s) (readTaken file) r (sym at-place ∙ e) in
       let k = cornersOf file (v .value) in
       let q = past (anyLacksHeight k) 6 (given (readingOf k)) r (v .then) in
       let i : readingOf k ≡ r = cc (q .1) in
-      record { source = v .value; taken = v .gave; mean = subst (λ (x : Reading). Mean file (rows b) (v .value) x) i (mean-of (v .value) (v .gave) (q .0)) }
+      record {
+        source = v .value;
+        taken = v .gave;
+        holds = taken-holds file (groundOf b z) p h (v .value) (v .gave);
+        mean = subst (λ (x : Reading). Mean file (rows b) (v .value) x) i (mean-of (v .value) (v .gave) (q .0));
+      }
 
   -- it is read exactly when a record is taken for it and no corner that weighs in lacks a height
   pub read-exactly : ((r : Reading) × (reading file b z p ≡ given r)) ↔ Readable file s

@@ -9,7 +9,7 @@ use native.Mathlib.Decide.{decLt}
 use native.Mathlib.Omega.{arith}
 use lib.Dec.{eqb·suc-zero}
 use lib.ListN.{length}
-use borrow.Author.Tests.{eqb-true, eqb-false, eq-eqb, not-true, not-false}
+use borrow.Author.Tests.{eqb-false, not-true, not-false}
 use Rattle.ground.specs.Outcome.{given, unless, _andThen_}
 use Rattle.ground.specs.Boundary.{yEnd, rows, named}
 use Rattle.ground.specs.Ground.{groundOf, opened}
@@ -21,7 +21,7 @@ use Rattle.index.specs.Index.{position, highest, indexPasses, Passes}
 use Rattle.index.proofs.Laws.Passes.{passing, passes-is}
 use Rattle.terrain.specs.Check.{checked, Gave}
 use Rattle.terrain.specs.Record.{entry, covered}
-use Rattle.terrain.specs.Inside.{checkedOn, IsEntry}
+use Rattle.terrain.specs.Inside.{checkedOn}
 use Rattle.terrain.specs.declared.check.Terrain.{Terrain}
 
 -- what the check gave for the file of base b and zone z: its ground was opened, it keeps the rules, and M is position 3072's number
@@ -73,12 +73,6 @@ check-passes file b z n p =
 pub check-exactly : (file : List ℕ) (b z : ℕ) → ((t : Terrain) × (checked file b z ≡ given t)) ↔ ((named b z ≡ true) × Passes file (rows b))
 check-exactly file b z = ((λ x. let c = checked-is file b z (x .0) (x .1) in (c .opened .named .is, c .passes)), λ k. (_, check-passes file b z (k .0) (k .1)))
 
--- what was looked up is what the index says of the rectangle
-pub entry-of : {file : List ℕ} (n : ℕ) {r : ℕ} → IsEntry file n r → r ≡ entry file n
-unfolding entry
-entry-of zero e = e .none refl
-entry-of (suc n) e = rw eqb·suc-zero (e .some (omega arith))
-
 -- a rectangle that is covered has a position, which holds a number
 pub record Covered (file : List ℕ) (n : ℕ) : Type 0 where
   pub first : 1 ≤ n
@@ -93,11 +87,10 @@ covered-is file (suc n) c =
     record { first = omega arith; entry = rw eqb·suc-zero; some = eqb-false _ _ (not-true _ (rw (eqb·suc-zero n) at c)) }
 
 -- rectangle n is not covered exactly if it is rectangle 0, which has no position, or its position holds 0
-pub not-covered : (file : List ℕ) (n : ℕ) → (covered file n ≡ false) ↔ ((n ≡ 0) ⊎ (position file n ≡ 0))
+pub not-covered : (file : List ℕ) (n : ℕ) → (entry file n ≡ 0) ↔ ((n ≡ 0) ⊎ (position file n ≡ 0))
 unfolding entry
 not-covered file zero = ((λ e. inl refl), λ x. refl)
-not-covered file (suc n) =
-    rw eqb·suc-zero ((λ e. inr (eqb-true _ _ (not-false _ e))), ⊎-elim (λ e. absurd (omega arith)) (λ z. rw (eq-eqb (position file (suc n)) 0 z)))
+not-covered file (suc n) = rw eqb·suc-zero (inr, ⊎-elim (λ e. absurd (omega arith)) (λ z. z))
 
 module _ {file : List ℕ} {rows : ℕ} (p : Passes file rows) where
   -- what the index says of a rectangle of the file: nothing, or a record from 7 to M

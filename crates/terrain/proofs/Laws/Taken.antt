@@ -1,62 +1,94 @@
 -- The record that a point is read from: its rectangle is a covered one of the file, and the record reaches as far as the point's weighing corners. What
 -- the crates above know of `taken` is said here. From the laws of a checked file and of places. Assumes nothing.
-use mathlib.Core.Path.{_≡_, refl, ap}
-use mathlib.Core.Bool.{Bool, true, false, not}
-use mathlib.Core.List.{List}
+use mathlib.Core.Path.{_≡_, refl, sym, _∙_, ap}
+use mathlib.Core.Bool.{Bool, true, false, not, cond}
+use mathlib.Core.List.{List, [], _∷_}
 use mathlib.Core.Logic.{_↔_, _⊎_, inl, inr, ⊎-elim}
 use Prim.Native.Nat.{ℕ, _*_, _≤_, _<_}
 use native.Mathlib.Omega.{arith}
-use lib.ListN.{length}
-use borrow.Author.Tests.{not-true, not-false}
+use lib.Dec.{eqb}
+use borrow.Author.Tests.{eqb-true, eqb-false, eq-eqb, ne-eqb, not-true, not-false}
 use Rattle.ground.specs.Outcome.{Outcome, given, refused, unless, _andThen_}
 use Rattle.ground.specs.Boundary.{rows}
 use Rattle.ground.specs.Ground.{groundOf, holds}
 use Rattle.ground.specs.Place.{number, placeOf, located}
+use Rattle.ground.specs.Seam.{westAllowed, southAllowed, when, beside, allowed, GridHolds, Among}
 use Rattle.ground.specs.declared.Ground.{Ground}
 use Rattle.ground.specs.declared.point.Point.{Point}
 use Rattle.ground.specs.declared.place.Place.{Place}
 use Rattle.ground.proofs.Laws.Boundary.{rows-28-29}
 use Rattle.ground.proofs.Laws.Outcome.{not-both, past, step}
-use Rattle.ground.proofs.Laws.Place.{lies, word-within, number-within, weighs}
+use Rattle.ground.proofs.Laws.Place.{lies, weighs}
+use Rattle.ground.proofs.Laws.Seam.{own-holds, allowed-exactly, number-within, words-within}
 use Rattle.index.specs.Index.{position, Passes}
 use Rattle.terrain.specs.Check.{Gave}
-use Rattle.terrain.specs.Record.{entry, covered, taken, rectangleOf, Uncovered, recordIn}
-use Rattle.terrain.specs.Inside.{Reaches}
+use Rattle.terrain.specs.Record.{entry, covered, recordAt, firstCovered, taken, takenBefore, rectangleOf, Uncovered, recordIn}
+use Rattle.terrain.specs.Inside.{InIndex, Reaches}
 use Rattle.terrain.specs.declared.check.Terrain.{Terrain}
 use Rattle.terrain.specs.declared.record.Taken.{Taken}
-use Rattle.terrain.proofs.Laws.Checked.{gave-is, not-covered, record-past, record-in}
+use Rattle.terrain.proofs.Laws.Checked.{gave-is, record-past, record-in}
+
+-- a place that is tried and whose rectangle is covered is taken
+pub covered-taken : (file : List ℕ) {c : Bool} (s : Place) (rest : List Place) → c ≡ true → (entry file (number (s .rectangle)) ≡ 0 → ⊥)
+    → firstCovered file (when c s rest) ≡ given (recordAt file s)
+unfolding firstCovered
+covered-taken file s rest t n = simp (t, ne-eqb (entry file (number (s .rectangle))) 0 n)
+
+-- past a place that is not tried, or whose rectangle is not covered
+pub past-place : (file : List ℕ) {c : Bool} (s : Place) (rest : List Place) → (c ≡ false) ⊎ (entry file (number (s .rectangle)) ≡ 0)
+    → firstCovered file (when c s rest) ≡ firstCovered file rest
+unfolding firstCovered
+past-place file {c} s rest = ⊎-elim (λ e. simp e) (λ z. go c (eq-eqb (entry file (number (s .rectangle))) 0 z))
+  where
+    go : (c : Bool) → eqb (entry file (number (s .rectangle))) 0 ≡ true → firstCovered file (when c s rest) ≡ firstCovered file rest
+    go true z = simp z
+    go false z = refl
+
+-- the record that is taken is that of the rectangle at one of the places, which is covered
+pub record IsFirst (file : List ℕ) (l : List Place) (t : Taken) : Type 0 where
+  pub gave : firstCovered file l ≡ given t
+  pub among : Among (t .place) l
+  pub is : t ≡ recordAt file (t .place)
+  pub covered : covered file (rectangleOf t) ≡ true
+
+-- refusal 5 is given, and none of the places lies in a covered rectangle
+record NoFirst (file : List ℕ) (l : List Place) : Type 0 where
+  pub gave : firstCovered file l ≡ refused 5 0
+  pub none : (u : Place) → Among u l → covered file (number (u .rectangle)) ≡ false
+
+-- one or the other is so of any places
+first-or-none : (file : List ℕ) (l : List Place) → ((t : Taken) × IsFirst file l t) ⊎ NoFirst file l
+unfolding firstCovered
+first-or-none file [] = inr (record { gave = refl; none = λ u a. absurd a })
+first-or-none file (s ∷ rest) = go (covered file (number (s .rectangle))) refl (first-or-none file rest)
+  where
+    go : (c : Bool) → covered file (number (s .rectangle)) ≡ c → ((t : Taken) × IsFirst file rest t) ⊎ NoFirst file rest
+        → ((t : Taken) × IsFirst file (s ∷ rest) t) ⊎ NoFirst file (s ∷ rest)
+    go true h more = inl (recordAt file s, record { gave = simp h; among = inl refl; is = refl; covered = h })
+    go false h (inl (t, f)) = inl (t, record { gave = simp (h, f .gave); among = inr (f .among); is = f .is; covered = f .covered })
+    go false h (inr f) = inr (record { gave = simp (h, f .gave); none = λ u. ⊎-elim (λ e. rw e h) (f .none u) })
 
 -- at any place a record is taken, or refusal 5 is given
 pub taken-or-5 : (file : List ℕ) (s : Place) → ((t : Taken) × (taken file s ≡ given t)) ⊎ (taken file s ≡ refused 5 0)
 unfolding taken
-taken-or-5 file s = go (not (covered file (number (s .rectangle)))) _
-  where
-    go : (c : Bool) (own : Taken) → ((t : Taken) × (unless c 5 (given own) ≡ given t)) ⊎ (unless c 5 (given own) ≡ refused 5 0)
-    go true own = inr refl
-    go false own = inl (own, refl)
+taken-or-5 file s = ⊎-elim (λ x. inl (x .0, x .1 .gave)) (λ f. inr (f .gave)) (first-or-none file (allowed s))
 
--- the record that is taken is that of the place's own rectangle, and the place in it is the place itself
-pub taken-own : (file : List ℕ) (s : Place) (t : Taken) → taken file s ≡ given t
-    → (covered file (number (s .rectangle)) ≡ true) × (t ≡ record { entry = entry file (number (s .rectangle)); place = s })
+-- what was taken is the first covered of the allowed rectangles
+pub taken-first : (file : List ℕ) (s : Place) (t : Taken) → taken file s ≡ given t → IsFirst file (allowed s) t
 unfolding taken
-taken-own file s t e =
-    let n = number (s .rectangle) in
-    let v = past (not (covered file n)) 5 (given (record { entry = entry file n; place = s })) t e in
-    (not-false (covered file n) (v .0), cc (v .1))
+taken-first file s t e =
+    ⊎-elim
+    (λ x. let i : x .0 ≡ t = cc (x .1 .gave, e) in rw i at (x .1))
+    (λ f. absurd (not-both (sym (f .gave) ∙ e)))
+    (first-or-none file (allowed s))
 
--- no record is taken exactly if the point's rectangle is rectangle 0, which has no position, or its position holds 0
-pub uncovered-is : (file : List ℕ) (s : Place) →
-    let n = number (s .rectangle) in Uncovered file s ↔ ((n ≡ 0) ⊎ (position file n ≡ 0))
+-- no record is taken exactly if none of the allowed rectangles has an entry
+pub uncovered-is : (file : List ℕ) (s : Place) → Uncovered file s ↔ ((u : Place) → Among u (allowed s) → entry file (number (u .rectangle)) ≡ 0)
 unfolding taken
-uncovered-is file s =
-    let is = not-covered file (number (s .rectangle)) in (
-      (λ none. go (covered file (number (s .rectangle))) refl none (is .0)),
-      λ x t e. not-both (rw (is .1 x) at e),
-    )
-  where
-    go : {C : Type 0} (c : Bool) → covered file (number (s .rectangle)) ≡ c → Uncovered file s → (covered file (number (s .rectangle)) ≡ false → C) → C
-    go true e none f = absurd (none (record { entry = entry file (number (s .rectangle)); place = s }) (simp e))
-    go false e none f = f e
+uncovered-is file s = (
+  (λ no. ⊎-elim (λ x. absurd (no (x .0) (x .1 .gave))) (λ f u a. eqb-true _ _ (not-false _ (f .none u a))) (first-or-none file (allowed s))),
+  λ none t e. let f = taken-first file s t e in eqb-false _ _ (not-true _ (f .covered)) (none (t .place) (f .among)),
+)
 
 -- a record that is taken in a file that passes: that of a covered rectangle of the file, past the index
 pub record IsTaken (file : List ℕ) (rows : ℕ) (t : Taken) : Type 0 where
@@ -65,29 +97,53 @@ pub record IsTaken (file : List ℕ) (rows : ℕ) (t : Taken) : Type 0 where
   pub within : rectangleOf t < 100 * rows
   pub reaches : Reaches file t
 
+-- Request b) changes what is taken only for a point whose own rectangle is not covered, where 5 was said.
+pub record Changed (file : List ℕ) (s : Place) : Type 0 where
+  pub stays : covered file (number (s .rectangle)) ≡ true → taken file s ≡ takenBefore file s
+  pub was : covered file (number (s .rectangle)) ≡ false → takenBefore file s ≡ refused 5 0
+  pub is : covered file (number (s .rectangle)) ≡ false → taken file s ≡ firstCovered file (beside s)
+  -- and not off the seams
+  pub off : westAllowed s ≡ false → southAllowed s ≡ false → taken file s ≡ takenBefore file s
+
+pub taken-as-before : (file : List ℕ) (s : Place) → Changed file s
+unfolding taken allowed firstCovered
+taken-as-before file s =
+    record {
+      stays = λ c. simp c;
+      was = λ c. simp c;
+      is = λ c. simp c;
+      off = λ w v. go (covered file (number (s .rectangle))) w v;
+    }
+  where
+    go : (c : Bool) → westAllowed s ≡ false → southAllowed s ≡ false
+        → cond c (given (recordAt file s)) (firstCovered file (beside s)) ≡ unless (not c) 5 (given (recordAt file s))
+    go true w v = refl
+    go false w v = simp (w, v)
+
+-- the grid of the rectangle whose record is taken for a point that the ground holds, holds it: its place there gives the point back
+pub taken-holds : (file : List ℕ) (g : Ground) (p : Point) → holds g p ≡ true → (t : Taken) → taken file (placeOf g p) ≡ given t
+    → GridHolds g p (t .place)
+taken-holds file g p h t e = allowed-exactly g p h (t .place) .0 (taken-first file (placeOf g p) t e .among)
+
 -- the record that is taken for a point that the ground holds
 pub taken-is : {file : List ℕ} (b z : ℕ) → Passes file (rows b) → (p : Point) → holds (groundOf b z) p ≡ true → (t : Taken)
     → taken file (placeOf (groundOf b z) p) ≡ given t → IsTaken file (rows b) t
 taken-is {file} b z passes p h t e =
-    let s = placeOf (groundOf b z) p in
-    let n = number (s .rectangle) in
-    let own = taken-own file s t e in
-    let i = own .1 in
-    let c = own .0 in
-    let within = number-within b z p h in
-    let l = lies (groundOf b z) p h in
-    let w = word-within (groundOf b z) p h in
-    rw i (record {
-      covered = c;
-      entry = refl;
+    let first = taken-first file (placeOf (groundOf b z) p) t e in
+    let m = taken-holds file (groundOf b z) p h t e in
+    let within = number-within b z p h m in
+    let named : t .entry ≡ entry file (rectangleOf t) = ap (λ (u : Taken). u .entry) (first .is) in
+    record {
+      covered = first .covered;
+      entry = named;
       within = within;
       reaches = record {
-        past = record-past passes n within c;
-        recorded = record-in passes n within;
-        words = omega arith;
-        all = rw (l .weights) (weighs (s .fx) (s .fy) (omega arith) (omega arith) .all);
+        past = rw named (record-past passes (rectangleOf t) within (first .covered));
+        recorded = rw named (record-in passes (rectangleOf t) within);
+        words = words-within m;
+        all = rw (m .weights) (weighs (t .place .fx) (t .place .fy) (omega (arith, m .fx)) (omega (arith, m .fy)) .all);
       };
-    })
+    }
 
 -- the place of a point that is located on a ground
 pub place-is : (b z : ℕ) {g : Ground} → g ≡ groundOf b z → (p : Point) (s : Place) → located g p ≡ given s
@@ -107,12 +163,13 @@ record-is {file} {t} f p u e =
     let i = place-is (f .base) (f .zone) (c .opened .is) p (s .value) (s .gave) in
     taken-is (f .base) (f .zone) (c .passes) p (i .0) u (rw (i .1) at (s .then))
 
--- the index has a position for the rectangle of a point that is located in a checked file, and lies in the file
+-- the index lies in a checked file, and has a position for the rectangle of a point that is located in it
 pub index-reaches : {file : List ℕ} {t : Terrain} → Gave file t → (p : Point) (s : Place) → located (t .ground) p ≡ given s
-    → (number (s .rectangle) < 3072) × (6144 ≤ length file)
+    → InIndex file (number (s .rectangle))
 index-reaches f p s e =
     let c = gave-is f in
     let i = place-is (f .base) (f .zone) (c .opened .is) p s e in
-    let n = number-within (f .base) (f .zone) p (i .0) in
+    let g = groundOf (f .base) (f .zone) in
+    let n = number-within (f .base) (f .zone) p (i .0) (own-holds g p (lies g p (i .0))) in
     let r = rows-28-29 (f .base) (c .opened .named .base) in
     rw (i .1) (omega arith, omega arith)

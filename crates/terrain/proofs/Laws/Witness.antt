@@ -1,5 +1,6 @@
 -- Some file passes the check, so no law of a file that passes speaks of nothing. In the file rectangle 50 has record 7, M is 7, and every other byte
--- is 0. The least file that there is passes too. Assumes nothing.
+-- is 0. Its four corners are points of four rectangles, and record 7 is taken for each of them. The least file that there is passes too.
+-- Assumes nothing.
 use mathlib.Core.Path.{_≡_, refl, sym, _∙_}
 use mathlib.Core.Logic.{_⊎_, inl, inr}
 use mathlib.Core.List.{List}
@@ -8,8 +9,16 @@ use native.Mathlib.Decide.{ℕ-discrete}
 use native.Mathlib.Omega.{arith}
 use lib.ListN.{length, getD, set, replicate, length-set, length-replicate, getD-replicate}
 use lib.Seq.{getD-set-other}
+use Rattle.ground.specs.Outcome.{given}
+use Rattle.ground.specs.Measure.{metres}
+use Rattle.ground.specs.Boundary.{yB, rows}
+use Rattle.ground.specs.Ground.{groundOf}
+use Rattle.ground.specs.Place.{weightsOf, placeAt, placeOf}
+use Rattle.ground.specs.Seam.{allowed}
 use Rattle.index.specs.Bytes.{nth}
 use Rattle.index.specs.Index.{position, highest, Passes}
+use Rattle.terrain.specs.Record.{entry, firstCovered, taken, rectangleOf}
+use Rattle.terrain.specs.declared.record.Taken.{Taken}
 
 -- the bytes of seven records, all 0
 unfoldable blank : List ℕ
@@ -70,6 +79,29 @@ some-passes =
     once : (m n : ℕ) → 1 ≤ m → m < n → n < 2800 → position file m ≡ position file n → Dec (n ≡ 50) → position file n ≡ 0
     once m n a b c e (yes q) = sym e ∙ empty m a (omega arith) (λ r. omega arith)
     once m n a b c e (no q) = empty n (omega arith) (omega arith) q
+
+-- for the point (E, N) of base 40 and zone 17 the record of rectangle 50 is taken, at this row and column
+pub record TakenAt (E N row column : ℕ) : Type 0 where
+  pub source : Taken
+  pub taken : taken file (placeOf (groundOf 40 17) (record { zone = 17; easting = metres E; northing = metres N })) ≡ given source
+  pub record-7 : source .entry ≡ 7
+  pub rectangle : rectangleOf source ≡ 50
+  pub wy : source .place .wy .0 ≡ row
+  pub wx : source .place .wx .0 ≡ column
+
+-- the four corners of rectangle 50: its own, and those to the west, to the south and to the south-west of which it is
+pub corners-taken : TakenAt 500000 4433000 0 0 × (TakenAt 507500 4433000 0 15 × (TakenAt 500000 4448500 31 0 × TakenAt 507500 4448500 31 15))
+unfolding yB rows weightsOf placeAt placeOf allowed nth entry firstCovered taken file blank
+corners-taken = (
+  record { source = _; taken = refl; record-7 = refl; rectangle = refl; wy = refl; wx = refl },
+  (
+    record { source = _; taken = refl; record-7 = refl; rectangle = refl; wy = refl; wx = refl },
+    (
+      record { source = _; taken = refl; record-7 = refl; rectangle = refl; wy = refl; wx = refl },
+      record { source = _; taken = refl; record-7 = refl; rectangle = refl; wy = refl; wx = refl },
+    ),
+  ),
+)
 
 -- the least file: six records, which cover nothing, and M is 6
 unfoldable pub least : List ℕ
