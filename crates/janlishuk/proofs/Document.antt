@@ -4,7 +4,7 @@
 -- the program. Assumes nothing.
 use mathlib.Core.Path.{_≡_, refl, _∙_, ap}
 use mathlib.Core.Logic.{_⊎_, inl, inr, _↔_}
-use mathlib.Core.Bool.{Bool, true, false, _&&_, and-eq-true-iff}
+use mathlib.Core.Bool.{true, false, _&&_, and-eq-true-iff}
 use mathlib.Core.List.{List, [], _∷_, _++_}
 use Prim.Native.Nat.{ℕ, zero, suc, _+_, _-_, _*_, _/_, _%_, _≤_, _<_}
 use native.Mathlib.Omega.{arith}
@@ -18,13 +18,13 @@ use Rattle.ground.specs.Seam.{westAllowed, southAllowed, inWest, inSouth, when,
 use Rattle.ground.specs.declared.point.Point.{Point}
 use Rattle.ground.specs.declared.place.Place.{Place}
 use Rattle.ground.proofs.Laws.Seam as seam
-use Rattle.ground.proofs.Laws.Seam.{OnEdge, on-west, on-south, Four, four-is}
+use Rattle.ground.proofs.Laws.Seam.{on-west, on-south, Four, four-is}
 use Rattle.index.specs.Bytes.{nth, records, Whole}
 use Rattle.index.specs.Index.{position, Passes}
 use Rattle.terrain.specs.Record.{entry, firstCovered, taken, Uncovered}
 use Rattle.terrain.specs.declared.record.Taken.{Taken}
 use Rattle.terrain.proofs.Laws.Checked.{not-covered}
-use Rattle.terrain.proofs.Laws.Taken.{covered-taken, past-place, uncovered-is}
+use Rattle.terrain.proofs.Laws.Taken.{covered-taken, passed-over, uncovered-is}
 use Rattle.survey.specs.Survey.{Lists, fiveLists, mostPoints, pointCount, pointAt, Unfit}
 use Rattle.survey.proofs.Laws.Lists.{most-points-is, count-is, point-is, lists-is, ListsFit, fits-exactly}
 use Rattle.path.specs.Path.{Q, N, pathOf, sample, farthest, tallest}
@@ -110,11 +110,6 @@ module _ (file : List ℕ) where
   covered-entry zero c = absurd (c (inl refl))
   covered-entry (suc n) c = own-position (suc n) (omega arith)
 
-  -- a test fails, or what follows from it holds
-  either-way : {C : Type 0} (t : Bool) → (t ≡ true → C) → (t ≡ false) ⊎ C
-  either-way true f = inr (f refl)
-  either-way false f = inl refl
-
   -- Document 02, request b), which says from which rectangle a point is read: "When the own rectangle isn't covered, a point with wx = 0 and fx = 0 may be read
   -- from column 15 of the rectangle to the west, one with wy = 0 and fy = 0 from row 31 of the one to the south, and one with all four 0 also from the corner
   -- of the south-west one. Try own, west, south, south-west, and take the first covered. No rectangle lies west of column 0 or south of row 0, and rectangle 0
@@ -154,22 +149,32 @@ module _ (file : List ℕ) where
           };
         }
 
-    edge : (w f i : ℕ) → (w ≡ 0) × (f ≡ 0) × (1 ≤ i) ↔ OnEdge w f i
-    edge w f i = ((λ o. record { units = o .0; metres = o .1; beyond = o .2 }), λ o. (o .units, o .metres, o .beyond))
-
     -- which rectangles are allowed, in the document's letters
     west-is : (westAllowed (placed b z p) ≡ true) ↔ OnWest
     unfolding placeOf placeAt
-    west-is = ((λ e. edge _ _ _ .1 (on-west (placed b z p) .0 e)), λ o. on-west (placed b z p) .1 (edge _ _ _ .0 o))
+    west-is =
+        let law = on-west (placed b z p) in
+        ((λ e. let o = law .0 e in (o .units, o .metres, o .beyond)), λ o. law .1 (record { units = o .0; metres = o .1; beyond = o .2 }))
 
     south-is : (southAllowed (placed b z p) ≡ true) ↔ OnSouth
     unfolding placeOf placeAt
-    south-is = ((λ e. edge _ _ _ .1 (on-south (placed b z p) .0 e)), λ o. on-south (placed b z p) .1 (edge _ _ _ .0 o))
+    south-is =
+        let law = on-south (placed b z p) in
+        ((λ e. let o = law .0 e in (o .units, o .metres, o .beyond)), λ o. law .1 (record { units = o .0; metres = o .1; beyond = o .2 }))
 
     -- past the own rectangle, which is not covered
     past-own : NotCovered own → taken file (placed b z p) ≡ firstCovered file (beside (placed b z p))
     unfolding placeOf placeAt taken allowed
-    past-own n = past-place file {c = true} (placed b z p) (beside (placed b z p)) (inr (not-covered-means own .1 n))
+    past-own n = passed-over file true (placed b z p) (beside (placed b z p)) (λ t. not-covered-means own .1 n)
+
+    -- past the rectangle to the west, which is not allowed or not covered
+    past-west : NotCovered own → (OnWest → NotCovered west)
+        → taken file (placed b z p)
+        ≡ firstCovered file (when (southAllowed (placed b z p)) (inSouth (placed b z p))
+        (when (westAllowed (placed b z p) && southAllowed (placed b z p)) (inSouth (inWest (placed b z p))) []))
+    unfolding placeOf placeAt
+    past-west n w =
+        past-own n ∙ passed-over file (westAllowed (placed b z p)) (inWest (placed b z p)) _ (λ e. not-covered-means west .1 (w (west-is .0 e)))
 
     pub own-taken : (NotCovered own → ⊥) → taken file (placed b z p) ≡ given (standing (Iy b z p) (Ix b z p) (wy b z p) (wx b z p))
     unfolding placeOf placeAt taken allowed
@@ -180,14 +185,6 @@ module _ (file : List ℕ) where
     unfolding placeOf placeAt
     west-taken n o c =
         past-own n ∙ rw (← covered-entry west c) (covered-taken file (inWest (placed b z p)) _ (west-is .1 o) (λ e. c (not-covered-means west .0 e)))
-
-    -- past the rectangle to the west, which is not allowed or not covered
-    past-west : NotCovered own → (OnWest → NotCovered west)
-        → taken file (placed b z p)
-        ≡ firstCovered file (when (southAllowed (placed b z p)) (inSouth (placed b z p))
-        (when (westAllowed (placed b z p) && southAllowed (placed b z p)) (inSouth (inWest (placed b z p))) []))
-    unfolding placeOf placeAt
-    past-west n w = past-own n ∙ past-place file (inWest (placed b z p)) _ (either-way (westAllowed (placed b z p)) λ e. not-covered-means west .1 (w (west-is .0 e)))
 
     pub south-taken : NotCovered own → (OnWest → NotCovered west) → OnSouth → (NotCovered south → ⊥)
         → taken file (placed b z p) ≡ given (standing (Iy b z p - 1) (Ix b z p) 31 (wx b z p))
@@ -200,7 +197,7 @@ module _ (file : List ℕ) where
     unfolding placeOf placeAt
     corner-taken n w v o q c =
         past-west n w
-        ∙ past-place file (inSouth (placed b z p)) _ (either-way (southAllowed (placed b z p)) λ e. not-covered-means south .1 (v (south-is .0 e)))
+        ∙ passed-over file (southAllowed (placed b z p)) (inSouth (placed b z p)) _ (λ e. not-covered-means south .1 (v (south-is .0 e)))
         ∙ rw (← covered-entry south-west c)
         (covered-taken file (inSouth (inWest (placed b z p))) [] (and-eq-true-iff _ _ .1 (west-is .1 o, south-is .1 q))
         (λ e. c (not-covered-means south-west .0 e)))

@@ -1,7 +1,7 @@
 -- What functions of this crate and of the reading ask of each other and tell each other, on the way to the promises. A reader of the promises may
 -- pass over this file. Assumes nothing.
 use mathlib.Core.Path.{_≡_}
-use mathlib.Core.Bool.{not}
+use mathlib.Core.Bool.{Bool, cond, not}
 use mathlib.Core.List.{List}
 use Prim.Native.Nat.{ℕ, _+_, _*_, _≤_, _<_}
 use lib.ListN.{length}
@@ -10,6 +10,7 @@ use Rattle.ground.specs.Place.{wordsOf, AtEach}
 use Rattle.ground.specs.declared.Ground.{Ground}
 use Rattle.index.specs.Bytes.{indexBytes}
 use Rattle.index.specs.Index.{highest, indexPasses}
+use Rattle.terrain.specs.Record.{entry}
 use Rattle.terrain.specs.declared.check.Terrain.{Terrain}
 use Rattle.terrain.specs.declared.record.Taken.{Taken}
 
@@ -20,6 +21,10 @@ checkedOn file g = unless (not (indexPasses file (g .rows))) 3 (given (record { 
 -- the index lies in the file, and n is the number of a position of it, or 0
 abbrev pub InIndex : List ℕ → ℕ → Type 0
 InIndex file n = (n < 3072) × (indexBytes ≤ length file)
+
+-- what the index says of rectangle n where the test holds, else 0
+abbrev pub entryWhere : List ℕ → Bool → ℕ → ℕ
+entryWhere file c n = cond c (entry file n) 0
 
 -- The record that a point is read from lies in the file past the index, the corners that weigh in are words of it, and the weights add up to 250,000.
 pub record Reaches (file : List ℕ) (t : Taken) : Type 0 where

@@ -1,9 +1,11 @@
 // The records of a file: which one a point is read from, and that record as a part of the lent bytes.
 ghost use mathlib.Core.Path.{_≡_};
+ghost use mathlib.Core.Bool.{true};
+ghost use Prim.Native.Nat.{_-_, _≤_};
 ghost use Rattle.ground.specs.Place.{number};
 ghost use Rattle.ground.specs.Seam.{beside};
 ghost use Rattle.terrain.specs.Check.{Gave};
-ghost use Rattle.terrain.specs.Inside.{InIndex};
+ghost use Rattle.terrain.specs.Inside.{InIndex, entryWhere};
 ghost use Rattle.terrain.specs.Record.{entry, firstCovered, taken, recordIn, recordFor, soughtMeans, RecordPart};
 use crate::check::Checked;
 use crate::check::Terrain;
@@ -37,6 +39,15 @@ fn entry_of(file: &[u8], n: usize) -> usize
     bytes::nth(file, n) as usize
 }
 
+// What the index says of the rectangle that is `back` numbers before n, where the point may be read
+// from it; else 0.
+fn entry_before(file: &[u8], allowed: bool, n: usize, back: usize) -> usize
+    requires { ⌜ InIndex (now file) n × (allowed ≡ true → back ≤ n) ⌝ }
+    ensures { λ r. ⌜ r ≡ entryWhere (now (file .entry)) allowed (n - back) ⌝ }
+{
+    if allowed { entry_of(file, n - back) } else { 0 }
+}
+
 // The record that a point of rectangle n is read from where n is not covered: that of the first covered
 // of the rectangles to the west, south and south-west, of those that its place allows; or refusal 5.
 fn take_beside(file: &[u8], place: Place, n: usize) -> Sought
@@ -45,32 +56,26 @@ fn take_beside(file: &[u8], place: Place, n: usize) -> Sought
 {
     let west = place.allows_west();
     let south = place.allows_south();
-    if west {
-        let entry = entry_of(file, n - 1);
-        if entry != 0 {
-            return Sought::From(Taken {
-                entry,
-                place: place.in_west(),
-            });
-        }
+    let entry = entry_before(file, west, n, 1);
+    if entry != 0 {
+        return Sought::From(Taken {
+            entry,
+            place: place.in_west(),
+        });
     }
-    if south {
-        let entry = entry_of(file, n - Rectangle::IN_A_ROW);
-        if entry != 0 {
-            return Sought::From(Taken {
-                entry,
-                place: place.in_south(),
-            });
-        }
+    let entry = entry_before(file, south, n, Rectangle::IN_A_ROW);
+    if entry != 0 {
+        return Sought::From(Taken {
+            entry,
+            place: place.in_south(),
+        });
     }
-    if west & south {
-        let entry = entry_of(file, n - Rectangle::IN_A_ROW - 1);
-        if entry != 0 {
-            return Sought::From(Taken {
-                entry,
-                place: place.in_west().in_south(),
-            });
-        }
+    let entry = entry_before(file, west & south, n, Rectangle::IN_A_ROW + 1);
+    if entry != 0 {
+        return Sought::From(Taken {
+            entry,
+            place: place.in_west().in_south(),
+        });
     }
     Sought::Refused(5)
 }

@@ -2,16 +2,15 @@
 -- sizes and of the ground. Assumes nothing.
 use mathlib.Core.Path.{_≡_, refl}
 use mathlib.Core.Bool.{true}
-use Prim.Native.Nat.{ℕ, _+_, _-_, _*_, _/_, _≤_, _<_}
-use native.Mathlib.Nat.{le-of-suc-le-suc, mul-le-mul, lt-of-le-of-lt, div-lt-iff-lt-mul}
+use Prim.Native.Nat.{ℕ, _+_, _*_, _≤_}
+use native.Mathlib.Nat.{le-of-suc-le-suc, mul-le-mul, lt-of-le-of-lt}
 use native.Mathlib.Omega.{arith}
 use lib.Dec.{lit<}
 use mir.Syntax.{w32}
 use mir.Val.{Fits}
-use Rattle.ground.specs.Measure.{inUnits}
-use Rattle.ground.specs.Boundary.{yB, rows}
-use Rattle.ground.specs.Ground.{groundOf, holds}
-use Rattle.ground.specs.Place.{number, weightsOf, placeAt, placeOf, word, wordsOf, locatedMeans, Each}
+use Rattle.ground.specs.Ground.{holds}
+use Rattle.ground.specs.Place.{weightsOf, placeAt, placeOf, word, wordsOf, locatedMeans, Each}
+use Rattle.ground.specs.Seam.{GridHolds}
 use Rattle.ground.specs.declared.measure.Metres.{Metres}
 use Rattle.ground.specs.declared.point.Point.{Point}
 use Rattle.ground.specs.declared.Ground.{Ground}
@@ -20,19 +19,13 @@ use Rattle.ground.specs.declared.Located.the-variants.{At, Refused}
 use Rattle.ground.specs.declared.place.Place.{Place}
 use Rattle.ground.specs.declared.place.Weights.{Weights}
 use Rattle.ground.proofs.Laws.Size.{axis, square}
-use Rattle.ground.proofs.Laws.Boundary.{rows-high}
 use Rattle.ground.proofs.Laws.Ground.{held}
 
--- the place s gives the easting and the northing of p back, and its parts are within their bounds
+-- the place s is that of the point p in its own rectangle, whose grid holds it: p lies neither on the eastern nor on the northern edge
 pub record Lies (g : Ground) (p : Point) (s : Place) : Type 0 where
-  pub easting : 125000 + 500 * (15 * s .rectangle .ix + s .wx .0) + s .fx .0 ≡ p .easting .0
-  pub northing : 500 * (g .south .0 + 31 * s .rectangle .iy + s .wy .0) + s .fy .0 ≡ p .northing .0
-  pub ix : s .rectangle .ix ≤ 99
+  pub grid : GridHolds g p s
   pub wx : s .wx .0 ≤ 14
   pub wy : s .wy .0 ≤ 30
-  pub fx : s .fx .0 ≤ 499
-  pub fy : s .fy .0 ≤ 499
-  pub weights : s .weights ≡ weightsOf (s .fx) (s .fy)
 
 -- the place of a point that the ground holds gives it back
 pub lies : (g : Ground) (p : Point) → holds g p ≡ true → Lies g p (placeOf g p)
@@ -42,14 +35,17 @@ lies g p h =
     let x = axis 500 15 250 (p .easting .0) (lit< tt) (lit< tt) (omega arith) in
     let y = axis 500 31 (g .south .0) (p .northing .0) (lit< tt) (lit< tt) (t .south) in
     record {
-      easting = omega arith;
-      northing = y .back;
-      ix = omega arith;
+      grid = record {
+        easting = omega arith;
+        northing = y .back;
+        fx = le-of-suc-le-suc (x .metres);
+        fy = le-of-suc-le-suc (y .metres);
+        east = omega (arith, x .units, x .metres);
+        north = omega (arith, y .units, y .metres);
+        weights = refl;
+      };
       wx = le-of-suc-le-suc (x .units);
       wy = le-of-suc-le-suc (y .units);
-      fx = le-of-suc-le-suc (x .metres);
-      fy = le-of-suc-le-suc (y .metres);
-      weights = refl;
     }
 
 -- the weights balance at the point, fx metres east and fy metres north of the south-west corner, and add up to 250,000

@@ -1,6 +1,6 @@
 -- Where a point may be read: exactly in the rectangles whose grid holds it, four at most, in falling order of their numbers; each is one of the file's, and
 -- the corners that weigh in are words of its record. From the laws of places. Assumes nothing.
-use mathlib.Core.Path.{_≡_, refl, sym}
+use mathlib.Core.Path.{_≡_, refl}
 use mathlib.Core.Logic.{_↔_, _⊎_, inl, inr, ⊎-elim}
 use mathlib.Core.Bool.{Bool, true, false, _&&_, and-eq-true-iff, false≢true}
 use mathlib.Core.List.{List, [], _∷_}
@@ -11,7 +11,7 @@ use lib.Dec.{leb, eqb, lit≤}
 use lib.ListN.{length}
 use borrow.Author.Tests.{leb-true, eqb-true, le-leb, eq-eqb}
 use Rattle.ground.specs.Measure.{metres, units}
-use Rattle.ground.specs.Boundary.{yB, rows}
+use Rattle.ground.specs.Boundary.{rows}
 use Rattle.ground.specs.Ground.{groundOf, holds}
 use Rattle.ground.specs.Place.{number, weightsOf, placeOf, wordsOf, AtEach}
 use Rattle.ground.specs.Seam.{westAllowed, southAllowed, inWest, inSouth, when, allowed, GridHolds, Among, FallFrom}
@@ -52,6 +52,12 @@ west-number s e = omega (arith, on-west s .0 e .beyond)
 -- the rectangle to the south has the number 100 before
 pub south-number : (s : Place) → southAllowed s ≡ true → number (s .rectangle) ≡ number (inSouth s .rectangle) + 100
 south-number s e = omega (arith, on-south s .0 e .beyond)
+
+-- the rectangle to the south-west has the number 101 before
+pub corner-number : (s : Place) → (westAllowed s && southAllowed s) ≡ true → number (s .rectangle) ≡ number (inSouth (inWest s) .rectangle) + 101
+corner-number s e =
+    let t = and-eq-true-iff (westAllowed s) (southAllowed s) .0 e in
+    omega (arith, west-number s (t .0), south-number (inWest s) (t .1))
 
 -- a place is among these where a test adds one: it is that one, and the test holds, or it is among the others
 among-when : {t : Place} (c : Bool) (u : Place) (rest : List Place) → Among t (when c u rest) ↔ (((c ≡ true) × (t ≡ u)) ⊎ Among t rest)
@@ -101,19 +107,6 @@ four-is s t = (
     from (corner x y e) = inr (second .1 (inr (third .1 (inr (fourth .1 (inl (and-eq-true-iff w v .1 (x, y), e)))))))
 
 module _ (g : Ground) (p : Point) where
-  -- the grid of the point's own rectangle holds it
-  pub own-holds : {s : Place} → Lies g p s → GridHolds g p s
-  own-holds l =
-      record {
-        easting = l .easting;
-        northing = l .northing;
-        fx = l .fx;
-        fy = l .fy;
-        east = omega (arith, l .wx, l .fx);
-        north = omega (arith, l .wy, l .fy);
-        weights = l .weights;
-      }
-
   -- a point that may be read from the rectangle to the west lies in its grid, in column 15
   west-holds : {s : Place} → GridHolds g p s → westAllowed s ≡ true → GridHolds g p (inWest s)
   west-holds {s} l e =
@@ -165,37 +158,37 @@ module _ (g : Ground) (p : Point) where
   module _ {s : Place} (l : Lies g p s) (t : Place) where
     -- a place whose rectangle is allowed is one whose grid holds the point
     allowed-holds : Four s t → GridHolds g p t
-    allowed-holds (own e) = rw e (own-holds l)
-    allowed-holds (west w e) = rw e (west-holds (own-holds l) w)
-    allowed-holds (south v e) = rw e (south-holds (own-holds l) v)
-    allowed-holds (corner w v e) = rw e (south-holds (west-holds (own-holds l) w) v)
+    allowed-holds (own e) = rw e (l .grid)
+    allowed-holds (west w e) = rw e (west-holds (l .grid) w)
+    allowed-holds (south v e) = rw e (south-holds (l .grid) v)
+    allowed-holds (corner w v e) = rw e (south-holds (west-holds (l .grid) w) v)
 
     module _ (m : GridHolds g p t) where
       -- a grid in another column that holds the point is that of the next column to the west
       westward : (t .rectangle .ix ≡ s .rectangle .ix → ⊥) → (westAllowed s ≡ true) × (t .rectangle .ix ≡ s .rectangle .ix - 1)
       westward n =
-          let x : (s .wx .0 ≡ 0) × ((s .fx .0 ≡ 0) × (s .rectangle .ix ≡ t .rectangle .ix + 1)) = omega (arith, l, m) in
+          let x : (s .wx .0 ≡ 0) × ((s .fx .0 ≡ 0) × (s .rectangle .ix ≡ t .rectangle .ix + 1)) = omega (arith, l, l .grid, m) in
           (on-west s .1 (record { units = x .0; metres = x .1 .0; beyond = omega (arith, x .1 .1) }), omega (arith, x .1 .1))
 
       -- a grid in another row that holds the point is that of the next row to the south
       southward : (t .rectangle .iy ≡ s .rectangle .iy → ⊥) → (southAllowed s ≡ true) × (t .rectangle .iy ≡ s .rectangle .iy - 1)
       southward n =
-          let y : (s .wy .0 ≡ 0) × ((s .fy .0 ≡ 0) × (s .rectangle .iy ≡ t .rectangle .iy + 1)) = omega (arith, l, m) in
+          let y : (s .wy .0 ≡ 0) × ((s .fy .0 ≡ 0) × (s .rectangle .iy ≡ t .rectangle .iy + 1)) = omega (arith, l, l .grid, m) in
           (on-south s .1 (record { units = y .0; metres = y .1 .0; beyond = omega (arith, y .1 .1) }), omega (arith, y .1 .1))
 
       -- a place whose grid holds the point is one of the four
       holds-allowed : Dec (t .rectangle .ix ≡ s .rectangle .ix) → Dec (t .rectangle .iy ≡ s .rectangle .iy) → Four s t
-      holds-allowed (yes x) (yes y) = own (one-place (own-holds l) m y x)
+      holds-allowed (yes x) (yes y) = own (one-place (l .grid) m y x)
       holds-allowed (no x) (yes y) =
           let w = westward x in
-          west (w .0) (one-place (west-holds (own-holds l) (w .0)) m y (w .1))
+          west (w .0) (one-place (west-holds (l .grid) (w .0)) m y (w .1))
       holds-allowed (yes x) (no y) =
           let v = southward y in
-          south (v .0) (one-place (south-holds (own-holds l) (v .0)) m (v .1) x)
+          south (v .0) (one-place (south-holds (l .grid) (v .0)) m (v .1) x)
       holds-allowed (no x) (no y) =
           let w = westward x in
           let v = southward y in
-          corner (w .0) (v .0) (one-place (south-holds (west-holds (own-holds l) (w .0)) (v .0)) m (v .1) (w .1))
+          corner (w .0) (v .0) (one-place (south-holds (west-holds (l .grid) (w .0)) (v .0)) m (v .1) (w .1))
 
 -- a point that the ground holds may be read exactly in the rectangles whose grid holds it
 pub allowed-exactly : (g : Ground) (p : Point) → holds g p ≡ true → (t : Place) → Among t (allowed (placeOf g p)) ↔ GridHolds g p t

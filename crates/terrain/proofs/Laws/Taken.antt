@@ -4,11 +4,10 @@ use mathlib.Core.Path.{_≡_, refl, sym, _∙_, ap}
 use mathlib.Core.Bool.{Bool, true, false, not, cond}
 use mathlib.Core.List.{List, [], _∷_}
 use mathlib.Core.Logic.{_↔_, _⊎_, inl, inr, ⊎-elim}
-use Prim.Native.Nat.{ℕ, _*_, _≤_, _<_}
+use Prim.Native.Nat.{ℕ, _*_, _<_}
 use native.Mathlib.Omega.{arith}
-use lib.Dec.{eqb}
-use borrow.Author.Tests.{eqb-true, eqb-false, eq-eqb, ne-eqb, not-true, not-false}
-use Rattle.ground.specs.Outcome.{Outcome, given, refused, unless, _andThen_}
+use borrow.Author.Tests.{eqb-true, eqb-false, ne-eqb, not-true, not-false}
+use Rattle.ground.specs.Outcome.{given, refused, unless}
 use Rattle.ground.specs.Boundary.{rows}
 use Rattle.ground.specs.Ground.{groundOf, holds}
 use Rattle.ground.specs.Place.{number, placeOf, located}
@@ -19,30 +18,44 @@ use Rattle.ground.specs.declared.place.Place.{Place}
 use Rattle.ground.proofs.Laws.Boundary.{rows-28-29}
 use Rattle.ground.proofs.Laws.Outcome.{not-both, past, step}
 use Rattle.ground.proofs.Laws.Place.{lies, weighs}
-use Rattle.ground.proofs.Laws.Seam.{own-holds, allowed-exactly, number-within, words-within}
-use Rattle.index.specs.Index.{position, Passes}
+use Rattle.ground.proofs.Laws.Seam.{allowed-exactly, number-within, words-within}
+use Rattle.index.specs.Index.{Passes}
 use Rattle.terrain.specs.Check.{Gave}
 use Rattle.terrain.specs.Record.{entry, covered, recordAt, firstCovered, taken, takenBefore, rectangleOf, Uncovered, recordIn}
-use Rattle.terrain.specs.Inside.{InIndex, Reaches}
+use Rattle.terrain.specs.Inside.{InIndex, entryWhere, Reaches}
 use Rattle.terrain.specs.declared.check.Terrain.{Terrain}
 use Rattle.terrain.specs.declared.record.Taken.{Taken}
 use Rattle.terrain.proofs.Laws.Checked.{gave-is, record-past, record-in}
 
--- a place that is tried and whose rectangle is covered is taken
+-- a place that is tried, the test c holding, and whose rectangle is covered is taken
 pub covered-taken : (file : List ℕ) {c : Bool} (s : Place) (rest : List Place) → c ≡ true → (entry file (number (s .rectangle)) ≡ 0 → ⊥)
     → firstCovered file (when c s rest) ≡ given (recordAt file s)
 unfolding firstCovered
-covered-taken file s rest t n = simp (t, ne-eqb (entry file (number (s .rectangle))) 0 n)
+covered-taken file s rest t some = simp (t, ne-eqb (entry file (number (s .rectangle))) 0 some)
 
--- past a place that is not tried, or whose rectangle is not covered
-pub past-place : (file : List ℕ) {c : Bool} (s : Place) (rest : List Place) → (c ≡ false) ⊎ (entry file (number (s .rectangle)) ≡ 0)
+-- a place whose rectangle, where it is tried, is not covered is passed over
+pub passed-over : (file : List ℕ) (c : Bool) (s : Place) (rest : List Place) → (c ≡ true → entry file (number (s .rectangle)) ≡ 0)
     → firstCovered file (when c s rest) ≡ firstCovered file rest
 unfolding firstCovered
-past-place file {c} s rest = ⊎-elim (λ e. simp e) (λ z. go c (eq-eqb (entry file (number (s .rectangle))) 0 z))
-  where
-    go : (c : Bool) → eqb (entry file (number (s .rectangle))) 0 ≡ true → firstCovered file (when c s rest) ≡ firstCovered file rest
-    go true z = simp z
-    go false z = refl
+passed-over file true s rest none = simp (none refl)
+passed-over file false s rest none = refl
+
+-- a place that is tried where the test c holds, and r, what the index then says of its rectangle
+pub record Tried (file : List ℕ) (c : Bool) (s : Place) (rest : List Place) (r : ℕ) : Type 0 where
+  pub held : (r ≡ 0 → ⊥) → c ≡ true
+  pub found : (r ≡ 0 → ⊥) → firstCovered file (when c s rest) ≡ given (record { entry = r; place = s })
+  pub passed : r ≡ 0 → firstCovered file (when c s rest) ≡ firstCovered file rest
+
+pub tried : (file : List ℕ) (c : Bool) (s : Place) (rest : List Place) {n r : ℕ} → r ≡ entryWhere file c n → (c ≡ true → n ≡ number (s .rectangle))
+    → Tried file c s rest r
+tried file true s rest e is =
+    let at = e ∙ ap (entry file) (is refl) in
+    record {
+      held = λ some. refl;
+      found = λ some. rw at (covered-taken file {c = true} s rest refl (rw at at some));
+      passed = λ none. passed-over file true s rest (λ t. sym at ∙ none);
+    }
+tried file false s rest e is = record { held = λ some. absurd (some e); found = λ some. absurd (some e); passed = λ none. refl }
 
 -- the record that is taken is that of the rectangle at one of the places, which is covered
 pub record IsFirst (file : List ℕ) (l : List Place) (t : Taken) : Type 0 where
@@ -170,6 +183,6 @@ index-reaches f p s e =
     let c = gave-is f in
     let i = place-is (f .base) (f .zone) (c .opened .is) p s e in
     let g = groundOf (f .base) (f .zone) in
-    let n = number-within (f .base) (f .zone) p (i .0) (own-holds g p (lies g p (i .0))) in
+    let n = number-within (f .base) (f .zone) p (i .0) (lies g p (i .0) .grid) in
     let r = rows-28-29 (f .base) (c .opened .named .base) in
     rw (i .1) (omega arith, omega arith)

@@ -1,5 +1,6 @@
 -- `built` is safe and ends: the loop counts i up to the 23 numbers. Assumes nothing.
 use Prim.Native.Nat.{_≤_, _-_}
+use native.Mathlib.Omega.{arith}
 use borrow.Author.Needs.{needs}
 use Rattle.answers.proofs.file.built.Statement.{statement}
 use Rattle.answers.proofs.file.built.Tie as tie
@@ -14,4 +15,4 @@ pub built-spec : {M : Type 1} → statement M
 built-spec =
     tie.close
     (tie.spec Inv-loop μ-loop (search needs) (search needs) (search needs) (search needs) (search needs) (search needs) (search needs)
-    (search needs) (search needs) (search needs))
+    (λ c. omega arith) (λ c. omega arith) (search needs))
