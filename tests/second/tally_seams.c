@@ -140,9 +140,9 @@ static bool in_covered(struct rules_file file, struct janlishuk_point point)
 static void tally_outside(struct rules_file file, struct janlishuk_point point)
 {
     struct janlishuk_point before = {.zone = point.zone, .easting = point.easting - 1, .northing = point.northing};
-    struct janlishuk_point below = {.zone = point.zone, .easting = point.easting, .northing = point.northing - 1};
+    struct janlishuk_point beneath = {.zone = point.zone, .easting = point.easting, .northing = point.northing - 1};
     count_if(point.zone == file.zone && in_covered(file, before), EASTERN_BOUND);
-    count_if(point.zone == file.zone && in_covered(file, below), NORTHERN_BOUND);
+    count_if(point.zone == file.zone && in_covered(file, beneath), NORTHERN_BOUND);
 }
 
 /* Counts what came of a point asked about, with the refusal that it was given, 0 where it was read and else 4 to 6. Answers the bit of the

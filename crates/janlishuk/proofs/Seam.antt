@@ -1,6 +1,6 @@
 -- Document 02, request b), changed no answer but refusal 5: whatever a call was given before, from the record of each point's own rectangle alone, and
--- every other refusal, it is given still; and where a point was refused with 5, it is now read from one of the rectangles beside its own, or refused with 5
--- as before. From the laws of the record taken. Assumes nothing.
+-- every other refusal, it is given still; and a point that was refused with 5 is now read as the first covered of the rectangles beside its own says. From
+-- the laws of the record taken and of the reading. Assumes nothing.
 use mathlib.Core.Path.{_≡_, refl, _∙_, ap}
 use mathlib.Core.Bool.{Bool, true, false}
 use mathlib.Core.List.{List}
@@ -10,17 +10,22 @@ use lib.ListN.{length}
 use denote.Ref.{RefT}
 use Rattle.ground.specs.Outcome.{Outcome, given, refused, _andThen_, refusalNumber}
 use Rattle.ground.specs.Place.{number, located}
+use Rattle.ground.specs.Seam.{beside}
 use Rattle.ground.specs.declared.point.Point.{Point}
 use Rattle.ground.specs.declared.place.Place.{Place}
 use Rattle.terrain.specs.Check.{checked}
-use Rattle.terrain.specs.Record.{covered, taken, takenBefore, recordIn, recordFor, RecordPart}
+use Rattle.terrain.specs.Record.{covered, firstCovered, taken, takenBefore, recordIn, recordFor, RecordPart}
 use Rattle.terrain.specs.declared.check.Terrain.{Terrain}
+use Rattle.terrain.specs.declared.check.CheckAnswer.{CheckAnswer}
+use Rattle.terrain.specs.declared.record.Taken.{Taken}
+use Rattle.terrain.proofs.Laws.Checked.{checked-is}
 use Rattle.terrain.proofs.Laws.Taken.{taken-as-before}
 use Rattle.reading.specs.Reading.{readTaken, pointIn, reading, readAnswer}
 use Rattle.reading.specs.Engine.{engine, engineMeans}
 use Rattle.reading.specs.declared.point.Reading.{Reading}
 use Rattle.reading.specs.declared.point.ReadAnswer.{ReadAnswer}
 use Rattle.reading.specs.declared.engine.EnginePoint.{EnginePoint}
+use Rattle.reading.proofs.Laws.Reading.{at-place}
 use Rattle.survey.specs.Survey.{Lists, pointAt}
 use Rattle.survey.specs.declared.UploadAnswer.{UploadAnswer}
 use Rattle.path.specs.Path.{pathOn, sample, askPath, askMasts, askSample}
@@ -35,9 +40,12 @@ use Rattle.plan.specs.Plan.{Plan}
 use Rattle.plan.specs.declared.PlanAnswer.{PlanAnswer}
 use Rattle.janlishuk.specs.Engine.{engineAnswer}
 use Rattle.janlishuk.specs.declared.point.EngineAnswer.{EngineAnswer}
-use Rattle.janlishuk.specs.Promise.{Reads, Uploads, HandsBack, Tells, Shows, Profiles, Judges, Plans, GivesRow}
+use Rattle.janlishuk.specs.Order.{OnGround, placed}
+use Rattle.janlishuk.specs.Promise.{Checks, Reads, Uploads, HandsBack, Tells, Shows, Profiles, Judges, Plans, GivesRow}
 use Rattle.janlishuk.specs.Demand.{EntryIs}
 use Rattle.janlishuk.specs.Before.{recordBefore, pointBefore, readingBefore, linkedBefore}
+use Rattle.janlishuk.proofs.Laws.Line.{was-given}
+use Rattle.janlishuk.proofs.Laws.Order.{on-ground, file-order}
 use Rattle.janlishuk.proofs.Survey.{upload-follows}
 
 -- what something comes to now is what it came to before, unless that was refusal 5
@@ -159,3 +167,19 @@ module _ (file after : List ℕ) (b z : ℕ) (p q : Point) where
       → r ≡ rowAnswer (linkedBefore file b z (askSample p q i) andThen λ l. given (rowOf l i))
   unfolding row
   row-stays i not5 r h = h .0 ∙ ap (λ (o : Outcome Link). rowAnswer (o andThen λ l. given (rowOf l i))) (linked-keeps file b z (askSample p q i) not5)
+
+-- A point of the file's zone and on its ground, in a file that passes the check, whose own rectangle is not covered: it was refused with 5, and is now read from
+-- the first covered of the rectangles beside its own that it may be read from, or refused with 5 where there is none.
+module _ (file after : List ℕ) (b z : ℕ) (c : CheckAnswer) (checks : Checks file after b z c) (passes : c .refusal ≡ 0) (p : Point) (on : OnGround b z p)
+    (bare : covered file (number (placed b z p .rectangle)) ≡ false) where
+  pub was-5 : readingBefore file b z p ≡ refused 5 0
+  was-5 =
+      let t = was-given (file-order file b z) (rw (checks .0) at passes) in
+      let is = checked-is file b z (t .0) (t .1) .opened .is in
+      simp (t .1, is, on-ground b z p .1 on, taken-as-before file (placed b z p) .was bare)
+
+  pub read-beside : (r : ReadAnswer) → Reads file after b z p r → r ≡ readAnswer (firstCovered file (beside (placed b z p)) andThen readTaken file)
+  read-beside r h =
+      let t = was-given (file-order file b z) (rw (checks .0) at passes) in
+      h .0
+      ∙ ap readAnswer (at-place file b z (t .0) (t .1) p (on-ground b z p .1 on) ∙ ap (λ (o : Outcome Taken). o andThen readTaken file) (taken-as-before file (placed b z p) .is bare))

@@ -111,7 +111,8 @@ module _ (file : List ℕ) (b z : ℕ) (t : Terrain) (c : checked file b z ≡ g
   abbrev s : Place
   s = placeOf (groundOf b z) p
 
-  at-place : reading file b z p ≡ (taken file s andThen readTaken file)
+  -- its reading is that of the record taken at its place
+  pub at-place : reading file b z p ≡ (taken file s andThen readTaken file)
   unfolding reading pointIn recordIn
   at-place = simp (c, checked-is file b z t c .opened .is, h)
 

@@ -1,5 +1,5 @@
 -- The record that a point is read from: its rectangle is a covered one of the file, and the record reaches as far as the point's weighing corners. What
--- the crates above know of `taken` is said here. From the laws of a checked file and of places. Assumes nothing.
+-- the crates above know of `taken` is said here. From the laws of a checked file, of places and of seams. Assumes nothing.
 use mathlib.Core.Path.{_≡_, refl, sym, _∙_, ap}
 use mathlib.Core.Bool.{Bool, true, false, not, cond}
 use mathlib.Core.List.{List, [], _∷_}
@@ -40,7 +40,7 @@ unfolding firstCovered
 passed-over file true s rest none = simp (none refl)
 passed-over file false s rest none = refl
 
--- a place that is tried where the test c holds, and r, what the index then says of its rectangle
+-- what becomes of a place that is tried where the test c holds; r is what the index then says of its rectangle, else 0
 pub record Tried (file : List ℕ) (c : Bool) (s : Place) (rest : List Place) (r : ℕ) : Type 0 where
   pub held : (r ≡ 0 → ⊥) → c ≡ true
   pub found : (r ≡ 0 → ⊥) → firstCovered file (when c s rest) ≡ given (record { entry = r; place = s })
@@ -69,7 +69,7 @@ record NoFirst (file : List ℕ) (l : List Place) : Type 0 where
   pub gave : firstCovered file l ≡ refused 5 0
   pub none : (u : Place) → Among u l → covered file (number (u .rectangle)) ≡ false
 
--- one or the other is so of any places
+-- of any places the first in a covered rectangle is taken, or no place lies in one
 first-or-none : (file : List ℕ) (l : List Place) → ((t : Taken) × IsFirst file l t) ⊎ NoFirst file l
 unfolding firstCovered
 first-or-none file [] = inr (record { gave = refl; none = λ u a. absurd a })
@@ -103,19 +103,11 @@ uncovered-is file s = (
   λ none t e. let f = taken-first file s t e in eqb-false _ _ (not-true _ (f .covered)) (none (t .place) (f .among)),
 )
 
--- a record that is taken in a file that passes: that of a covered rectangle of the file, past the index
-pub record IsTaken (file : List ℕ) (rows : ℕ) (t : Taken) : Type 0 where
-  pub covered : covered file (rectangleOf t) ≡ true
-  pub entry : t .entry ≡ entry file (rectangleOf t)
-  pub within : rectangleOf t < 100 * rows
-  pub reaches : Reaches file t
-
--- Request b) changes what is taken only for a point whose own rectangle is not covered, where 5 was said.
+-- Request b) of document 02 changes what is taken only for a point on a seam whose own rectangle is not covered, which was refused with 5.
 pub record Changed (file : List ℕ) (s : Place) : Type 0 where
   pub stays : covered file (number (s .rectangle)) ≡ true → taken file s ≡ takenBefore file s
   pub was : covered file (number (s .rectangle)) ≡ false → takenBefore file s ≡ refused 5 0
   pub is : covered file (number (s .rectangle)) ≡ false → taken file s ≡ firstCovered file (beside s)
-  -- and not off the seams
   pub off : westAllowed s ≡ false → southAllowed s ≡ false → taken file s ≡ takenBefore file s
 
 pub taken-as-before : (file : List ℕ) (s : Place) → Changed file s
@@ -133,10 +125,17 @@ taken-as-before file s =
     go true w v = refl
     go false w v = simp (w, v)
 
--- the grid of the rectangle whose record is taken for a point that the ground holds, holds it: its place there gives the point back
+-- the place in the record taken gives a point of the ground back: the grid of its rectangle holds the point
 pub taken-holds : (file : List ℕ) (g : Ground) (p : Point) → holds g p ≡ true → (t : Taken) → taken file (placeOf g p) ≡ given t
     → GridHolds g p (t .place)
 taken-holds file g p h t e = allowed-exactly g p h (t .place) .0 (taken-first file (placeOf g p) t e .among)
+
+-- a record that is taken in a file that passes: that of a covered rectangle of the file, past the index
+pub record IsTaken (file : List ℕ) (rows : ℕ) (t : Taken) : Type 0 where
+  pub covered : covered file (rectangleOf t) ≡ true
+  pub entry : t .entry ≡ entry file (rectangleOf t)
+  pub within : rectangleOf t < 100 * rows
+  pub reaches : Reaches file t
 
 -- the record that is taken for a point that the ground holds
 pub taken-is : {file : List ℕ} (b z : ℕ) → Passes file (rows b) → (p : Point) → holds (groundOf b z) p ≡ true → (t : Taken)
