@@ -26,11 +26,11 @@ southAllowed s = eqb (s .wy .0) 0 && eqb (s .fy .0) 0 && leb 1 (s .rectangle .iy
 abbrev pub moved : Place → Rectangle → (column row : Units) → Place
 moved s r column row = record { rectangle = r; wx = column; wy = row; fx = s .fx; fy = s .fy; weights = s .weights }
 
--- the point in column 15 of the rectangle to the west
+-- the point in column 15 of the rectangle to the west, where there is one
 abbrev pub inWest : Place → Place
 inWest s = moved s (rectangle (s .rectangle .iy) (s .rectangle .ix - 1)) (units 15) (s .wy)
 
--- the point in row 31 of the rectangle to the south
+-- the point in row 31 of the rectangle to the south, where there is one
 abbrev pub inSouth : Place → Place
 inSouth s = moved s (rectangle (s .rectangle .iy - 1) (s .rectangle .ix)) (s .wx) (units 31)
 

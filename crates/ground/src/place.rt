@@ -23,9 +23,9 @@ pub struct Words {
     pub ne: usize,
 }
 
-// Where a point lies: its rectangle, the column wx and row wy of the south-west corner in it, the
-// metres fx and fy past that corner, and the weights. The place of a refusal is another thing, a
-// sample's number.
+// Where a point lies: a rectangle, the column wx and row wy of the word at the point's south-west
+// corner in it, the metres fx and fy past that corner, and the weights. The place of a refusal is
+// another thing, a sample's number.
 pub struct Place {
     pub rectangle: Rectangle,
     pub wx: Units,

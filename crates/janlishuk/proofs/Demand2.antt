@@ -6,9 +6,9 @@ use mathlib.Core.Bool.{Bool, true, false, cond, false≢true}
 use mathlib.Core.List.{List}
 use Prim.Native.Nat.{ℕ, _+_, _≤_, _<_}
 use native.Mathlib.Omega.{arith}
-use Rattle.ground.specs.Outcome.{given, refusalNumber}
+use Rattle.ground.specs.Outcome.{Outcome, given, refusalNumber}
 use Rattle.ground.specs.declared.point.Point.{Point}
-use Rattle.ground.proofs.Laws.Outcome.{step}
+use Rattle.ground.proofs.Laws.Outcome.{refused-is, step}
 use Rattle.terrain.specs.Check.{checked}
 use Rattle.terrain.specs.declared.check.Terrain.{Terrain}
 use Rattle.terrain.specs.declared.check.CheckAnswer.{CheckAnswer}
@@ -23,9 +23,9 @@ use Rattle.profile.specs.Profile.{Profile, Link, linked, profile, profileAnswer
 use Rattle.profile.specs.Row.{row}
 use Rattle.profile.specs.declared.ProfileAnswer.{ProfileAnswer}
 use Rattle.profile.specs.declared.row.RowAnswer.{RowAnswer}
-use Rattle.profile.proofs.Laws.Profile.{Filled}
+use Rattle.profile.proofs.Laws.Profile.{Filled, one-refused, all-read}
 use Rattle.profile.proofs.Laws.Link as profile-law
-use Rattle.profile.proofs.Laws.Link.{profile-given, profile-at}
+use Rattle.profile.proofs.Laws.Link.{by-samples, profile-given, profile-at}
 use Rattle.link.specs.Clear.{clear, verdict, verdictAnswer}
 use Rattle.link.specs.declared.clear.VerdictAnswer.{VerdictAnswer}
 use Rattle.plan.specs.declared.PlanAnswer.{PlanAnswer}
@@ -82,6 +82,19 @@ module _ (file after : List ℕ) (b z : ℕ) (c : CheckAnswer) (checks : Checks 
           (λ e i l r h. rw (h .0) (ap refusalNumber (law .0 (was-given (profile-order file b z p q) e) i l .1))),
           λ f. ap refusalNumber (law .1 (λ i l. was-given (reading-order file b z (sample (pathOf p q) i)) (f i l _ (refl, checks .1))) .1),
         )
+
+    -- A profile is refused as the first of its samples that is refused, with that sample's number for its place.
+    pub profile-refused : (i : ℕ) → i ≤ N (Q p q)
+        → ((j : ℕ) → j < i → (r : ReadAnswer) → Reads file after b z (sample (pathOf p q) j) r → r .refusal ≡ 0)
+        → (r : ReadAnswer) → Reads file after b z (sample (pathOf p q) i) r → (r .refusal ≡ 0 → ⊥)
+        → (pr .refusal ≡ r .refusal) × (pr .place ≡ i)
+    profile-refused i l before r reads not0 =
+        let by = by-samples file b z (terrain .0) (terrain .1) p q (on-ground b z p .1 hp) (on-ground b z q .1 hq) some most in
+        let reader : ℕ → Outcome Reading = λ k. reading file b z (sample (pathOf p q) k) in
+        let read = all-read reader (N (Q p q)) i λ j m. was-given (reading-order file b z (sample (pathOf p q) j)) (before j m _ (refl, checks .1)) in
+        let refusal = refused-is (reader i) (rw (reads .0) at not0) in
+        let e = by ∙ one-refused reader (N (Q p q)) l (read .1) refusal in
+        rw (profiles .0, reads .0, e) (refl, refl)
 
 -- Document 01: verdict, plan and row are given only where the whole profile is.
 module _ (file after : List ℕ) (b z : ℕ) (p q : Point) (pr : ProfileAnswer) (profiles : Profiles file after b z p q pr) where

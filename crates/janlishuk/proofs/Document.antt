@@ -1,7 +1,7 @@
 -- Sentences of documents 01 and 02 that the promises and the order of checks rest on, in bytes and in numbers: where a point lies and what its corners weigh,
 -- which bytes a position is, when a file passes, when a rectangle is not covered, which bases and zones are named, when the lists of a survey fit and which
--- points they hold, and the numbers of each call in their order. They are stated in bytes and numbers, so that no definition can be wrong in the same way as
--- the program. Assumes nothing.
+-- points they hold, and the numbers of each call in their order. They are stated in bytes and numbers, so that no definition that they speak of can be wrong
+-- in the same way as the program. Assumes nothing.
 use mathlib.Core.Path.{_≡_, refl, _∙_, ap}
 use mathlib.Core.Logic.{_⊎_, inl, inr, _↔_}
 use mathlib.Core.Bool.{true, false, _&&_, and-eq-true-iff}
@@ -56,10 +56,10 @@ module _ (b z : ℕ) (p : Point) where
   abbrev w : ℕ
   w = 16 * wy + wx + 1
 
-  abbrev fx : ℕ
+  abbrev pub fx : ℕ
   fx = p .easting .0 % 500
 
-  abbrev fy : ℕ
+  abbrev pub fy : ℕ
   fy = p .northing .0 % 500
 
   pub rectangle-number : number (placed b z p .rectangle) ≡ 100 * Iy + Ix
@@ -82,7 +82,7 @@ module _ (b z : ℕ) (p : Point) where
 -- "Records 1 to 6 are the index: 3072 16-bit positions, numbered from 1. Position n holds the record number for rectangle n, 0 if not covered. Rectangle 0 has no
 -- position and is never covered." "House: numbers are high byte first."
 module _ (file : List ℕ) where
-  abbrev at : ℕ → ℕ
+  abbrev pub at : ℕ → ℕ
   at n = 256 * getD file (2 * (n - 1)) 0 + getD file (2 * (n - 1) + 1) 0
 
   pub position-bytes : (n : ℕ) → position file n ≡ at n
@@ -135,7 +135,7 @@ module _ (file : List ℕ) where
     south-west = 100 * (Iy b z p - 1) + (Ix b z p - 1)
 
     -- the record that the position of rectangle 100 iy + ix names, and the point at this row and column of it
-    abbrev standing : (iy ix row column : ℕ) → Taken
+    abbrev pub standing : (iy ix row column : ℕ) → Taken
     standing iy ix row column =
         record {
           entry = at (100 * iy + ix);

@@ -155,7 +155,7 @@ module _ (file : List ℕ) (b z : ℕ) (t : Terrain) (c : checked file b z ≡ g
   in-file r = simp c
 
   -- the profile is what the samples' readings make it
-  by-samples : profile file b z p q ≡ profileBy reader (N (Q p q))
+  pub by-samples : profile file b z p q ≡ profileBy reader (N (Q p q))
   unfolding profile linked pathOn linkIn
   by-samples =
       let w = pathOf p q in
