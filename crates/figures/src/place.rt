@@ -14,11 +14,13 @@ fn lies_in(point: Point, n: u32) -> bool
     call::read(&file, point).refusal == 0
 }
 
-// The first rectangle that the point lies in, or 3072, which is none.
+// The rectangle that the point lies in, or 3072, which is none. A point on a seam is also read where one
+// before its own is covered alone, so they are tried from the last down.
 fn rectangle_of(point: Point) -> u32
     ensures { λ r. ⌜ (1 ≤ r) × (r ≤ 3072) ⌝ }
 {
-    for n in 1..file::LAST {
+    for k in 1..file::LAST {
+        let n = file::LAST - k;
         if lies_in(point, n) {
             return n;
         }
