@@ -67,7 +67,7 @@ lacks-in-bytes file r w k weight v within =
       λ x. law .1 (x .0, rw (in-bytes file r k w v (within (x .0))) (x .1)),
     )
 
--- what a corner adds, if it weighs in, and what it adds that does not
+-- what a corner adds to a sum depends on its word only where it weighs in
 part : (add : (word weight : ℕ) → ℕ) → ((word : ℕ) → add word 0 ≡ 0) → (word word′ weight : ℕ) → (0 < weight → word ≡ word′) → add word weight ≡ add word′ weight
 part add none word word′ zero same = none word ∙ sym (none word′)
 part add none word word′ (suc k) same = ap (λ (v : ℕ). add v (suc k)) (same (omega arith))
@@ -77,7 +77,7 @@ no-weight : (of : Bool) → _≡_ {A = ℕ} (cond of 0 0) 0
 no-weight true = refl
 no-weight false = refl
 
--- a reading from a record taken is refused with 6 exactly if a corner lacks a height, and never with 5
+-- a reading from a record taken is refused with 6 exactly if a corner lacks a height
 six-is : (file : List ℕ) (t : Taken) → (refusalNumber (readTaken file t) ≡ 6) ↔ (anyLacksHeight (cornersOf file t) ≡ true)
 unfolding readTaken readCorners
 six-is file t = go (anyLacksHeight (cornersOf file t)) _
@@ -86,6 +86,7 @@ six-is file t = go (anyLacksHeight (cornersOf file t)) _
     go true read = ((λ e. refl), λ e. refl)
     go false read = ((λ e. absurd (omega arith)), λ e. absurd (false≢true e))
 
+-- a reading from a record taken is not refused with 5
 never-5 : (file : List ℕ) (t : Taken) → refusalNumber (readTaken file t) ≡ 5 → ⊥
 unfolding readTaken readCorners
 never-5 file t = go (anyLacksHeight (cornersOf file t)) _
@@ -100,6 +101,7 @@ module _ (file after : List ℕ) (b z : ℕ) (c : CheckAnswer) (checks : Checks 
   terrain : (t : Terrain) × (checked file b z ≡ given t)
   terrain = was-given (file-order file b z) (rw (checks .0) at passes)
 
+  -- the refusal is that of the reading from the record taken
   refusal-is : r .refusal ≡ refusalNumber (taken file (placed b z p) andThen readTaken file)
   refusal-is = ap (λ (a : ReadAnswer). a .refusal) (reads .0) ∙ ap refusalNumber (at-place file b z (terrain .0) (terrain .1) p (on-ground b z p .1 on))
 
@@ -126,6 +128,7 @@ module _ (file after : List ℕ) (b z : ℕ) (c : CheckAnswer) (checks : Checks 
       + add (word (row + 1) (column + 1)) (f * g)
 
   module _ (is : r .refusal ≡ 0) where
+    -- demand 2, of the record that it is read from
     is-mean : Mean file (rows b) (standing file b z p iy ix row column) (record { height = r .height; code = r .code })
     is-mean =
         let m = reading-is-mean file after b z c checks passes p on r reads is in
