@@ -77,23 +77,18 @@ no-weight : (of : Bool) → _≡_ {A = ℕ} (cond of 0 0) 0
 no-weight true = refl
 no-weight false = refl
 
--- a reading from a record taken is refused with 6 exactly if a corner lacks a height
-six-is : (file : List ℕ) (t : Taken) → (refusalNumber (readTaken file t) ≡ 6) ↔ (anyLacksHeight (cornersOf file t) ≡ true)
-unfolding readTaken readCorners
-six-is file t = go (anyLacksHeight (cornersOf file t)) _
-  where
-    go : (lacks : Bool) (read : Reading) → (refusalNumber (unless lacks 6 (given read)) ≡ 6) ↔ (lacks ≡ true)
-    go true read = ((λ e. refl), λ e. refl)
-    go false read = ((λ e. absurd (omega arith)), λ e. absurd (false≢true e))
+-- a reading from a record taken is refused with 6 exactly if a corner lacks a height, and never with 5
+record SixOnly (number : ℕ) (lacks : Bool) : Type 0 where
+  pub six : (number ≡ 6) ↔ (lacks ≡ true)
+  pub not5 : number ≡ 5 → ⊥
 
--- a reading from a record taken is not refused with 5
-never-5 : (file : List ℕ) (t : Taken) → refusalNumber (readTaken file t) ≡ 5 → ⊥
+six-only : (file : List ℕ) (t : Taken) → SixOnly (refusalNumber (readTaken file t)) (anyLacksHeight (cornersOf file t))
 unfolding readTaken readCorners
-never-5 file t = go (anyLacksHeight (cornersOf file t)) _
+six-only file t = go (anyLacksHeight (cornersOf file t)) _
   where
-    go : (lacks : Bool) (read : Reading) → refusalNumber (unless lacks 6 (given read)) ≡ 5 → ⊥
-    go true read e = omega arith
-    go false read e = omega arith
+    go : (lacks : Bool) (read : Reading) → SixOnly (refusalNumber (unless lacks 6 (given read))) lacks
+    go true read = record { six = ((λ e. refl), λ e. refl); not5 = λ e. omega arith }
+    go false read = record { six = ((λ e. absurd (omega arith)), λ e. absurd (false≢true e)); not5 = λ e. omega arith }
 
 -- A point of the file's zone and on its ground, in a file that passes the check:
 module _ (file after : List ℕ) (b z : ℕ) (c : CheckAnswer) (checks : Checks file after b z c) (passes : c .refusal ≡ 0)
@@ -108,7 +103,7 @@ module _ (file after : List ℕ) (b z : ℕ) (c : CheckAnswer) (checks : Checks 
   -- "5 when none of the allowed rectangles is covered"
   pub five-exactly : (r .refusal ≡ 5) ↔ NoneCovered file b z p
   five-exactly = (
-    (λ e. uncovered-means file b z p .0 λ t g. never-5 file t (sym (refusal-is ∙ ap refusalNumber (ap (λ (o : Outcome Taken). o andThen readTaken file) g)) ∙ e)),
+    (λ e. uncovered-means file b z p .0 λ t g. six-only file t .not5 (sym (refusal-is ∙ ap refusalNumber (ap (λ (o : Outcome Taken). o andThen readTaken file) g)) ∙ e)),
     λ k. ⊎-elim (λ x. absurd (uncovered-means file b z p .1 k (x .0) (x .1))) (λ e. refusal-is ∙ rw e) (taken-or-5 file (placed b z p)),
   )
 
@@ -195,5 +190,5 @@ module _ (file after : List ℕ) (b z : ℕ) (c : CheckAnswer) (checks : Checks 
       (either _ _
       (lacks (w + 16) (16 * (row + 1) + column) _ (omega arith) (within .nw .1))
       (lacks (w + 17) (16 * (row + 1) + (column + 1)) _ (omega arith) (within .ne .1))) in
-      let law = six-is file t in
+      let law = six-only file t .six in
       ((λ e. any .0 (law .0 (sym same ∙ e))), λ x. same ∙ law .1 (any .1 x))

@@ -6,7 +6,7 @@ use mathlib.Core.Bool.{Bool, true, false, cond, false≢true}
 use mathlib.Core.List.{List}
 use Prim.Native.Nat.{ℕ, _+_, _≤_, _<_}
 use native.Mathlib.Omega.{arith}
-use Rattle.ground.specs.Outcome.{Outcome, given, refusalNumber}
+use Rattle.ground.specs.Outcome.{Outcome, given, refused, refusalNumber}
 use Rattle.ground.specs.declared.point.Point.{Point}
 use Rattle.ground.proofs.Laws.Outcome.{refused-is, step}
 use Rattle.terrain.specs.Check.{checked}
@@ -17,7 +17,7 @@ use Rattle.reading.specs.Demand.{Readable, IsMean}
 use Rattle.reading.specs.declared.point.Reading.{Reading}
 use Rattle.reading.specs.declared.point.ReadAnswer.{ReadAnswer}
 use Rattle.reading.proofs.Laws.Reading as reading-law
-use Rattle.path.specs.Path.{Q, N, asking, pathOf, sample, along, farthest}
+use Rattle.path.specs.Path.{Q, N, asking, askPath, pathOf, sample, along, farthest}
 use Rattle.path.proofs.Laws.Steps.{N-is}
 use Rattle.profile.specs.Profile.{Profile, Link, linked, profile, profileAnswer}
 use Rattle.profile.specs.Row.{row}
@@ -25,7 +25,7 @@ use Rattle.profile.specs.declared.ProfileAnswer.{ProfileAnswer}
 use Rattle.profile.specs.declared.row.RowAnswer.{RowAnswer}
 use Rattle.profile.proofs.Laws.Profile.{Filled, one-refused, all-read}
 use Rattle.profile.proofs.Laws.Link as profile-law
-use Rattle.profile.proofs.Laws.Link.{by-samples, profile-given, profile-at}
+use Rattle.profile.proofs.Laws.Link.{same-link, by-samples, profile-given, profile-at}
 use Rattle.link.specs.Clear.{clear, verdict, verdictAnswer}
 use Rattle.link.specs.declared.clear.VerdictAnswer.{VerdictAnswer}
 use Rattle.plan.specs.declared.PlanAnswer.{PlanAnswer}
@@ -120,6 +120,30 @@ module _ (file after : List ℕ) (b z : ℕ) (p q : Point) (pr : ProfileAnswer) 
       let t = was-given (row-order file b z p q i) (rw (h .0) at e) in
       let s = step (linked file b z (asking p q 0 0 i)) _ (t .0) (t .1) in
       linked-only 0 0 i (s .value) (s .gave)
+
+  -- Where the profile is refused, verdict, plan and row have its number and place, if what they are asked with besides is within its bounds.
+  module _ (not0 : pr .refusal ≡ 0 → ⊥) where
+    linked-refused : (ma mb i : ℕ) → ma ≤ 100 → mb ≤ 100 → i ≤ N (Q p q) → linked file b z (asking p q ma mb i) ≡ refused (pr .refusal) (pr .place)
+    unfolding profile
+    linked-refused ma mb i la lb li =
+        same-link file b z (asking p q ma mb i) (record { a = la; b = lb; i = li }) ∙ go (linked file b z (askPath p q)) refl
+      where
+        go : (o : Outcome Link) → linked file b z (askPath p q) ≡ o → linked file b z (askPath p q) ≡ refused (pr .refusal) (pr .place)
+        go (given l) e = absurd (not0 (rw (profiles .0, e) refl))
+        go (refused number place) e = e ∙ rw (profiles .0, e) refl
+
+    pub verdict-refused : (ma mb : ℕ) → ma ≤ 100 → mb ≤ 100 → (v : VerdictAnswer) → Judges file after b z p q ma mb v
+        → (v .refusal ≡ pr .refusal) × (v .place ≡ pr .place)
+    unfolding verdict
+    verdict-refused ma mb la lb v h = rw (h .0, linked-refused ma mb 0 la lb (omega arith)) (refl, refl)
+
+    pub plan-refused : (la lb : ℕ) → la ≤ 100 → lb ≤ 100 → (r : PlanAnswer) → Plans file after b z p q la lb r
+        → (r .refusal ≡ pr .refusal) × (r .place ≡ pr .place)
+    plan-refused la lb ha hb r h = rw (plan-is file b z p q la lb r (h .0), linked-refused la lb 0 ha hb (omega arith)) (refl, refl)
+
+    pub row-refused : (i : ℕ) → i ≤ N (Q p q) → (r : RowAnswer) → GivesRow file after b z p q i r → (r .refusal ≡ pr .refusal) × (r .place ≡ pr .place)
+    unfolding row
+    row-refused i l r h = rw (h .0, linked-refused 0 0 i (omega arith) (omega arith) l) (refl, refl)
 
 -- "Profiles and clear verdicts follow 01 sample by sample." Of a path whose profile is given:
 module _ (file after : List ℕ) (b z : ℕ) (p q : Point) (pr : ProfileAnswer) (profiles : Profiles file after b z p q pr) (is : pr .refusal ≡ 0) where

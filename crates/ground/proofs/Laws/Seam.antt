@@ -28,6 +28,7 @@ pub record OnEdge (w f i : ℕ) : Type 0 where
   pub metres : f ≡ 0
   pub beyond : 1 ≤ i
 
+-- the test of an edge holds exactly where a point is on it
 edge-is : (w f i : ℕ) → ((eqb w 0 && eqb f 0 && leb 1 i) ≡ true) ↔ OnEdge w f i
 edge-is w f i = (
   (λ e.
