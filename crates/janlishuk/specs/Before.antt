@@ -15,19 +15,19 @@ use Rattle.path.specs.Path.{pathOn, sample}
 use Rattle.path.specs.declared.Asked.{Asked}
 use Rattle.profile.specs.Profile.{Link, profileBy}
 
--- the record of a point
+-- the record of a point before request b): 1 to 4, then its own rectangle's record or 5
 abbrev pub recordBefore : List ℕ → ℕ → ℕ → Point → Outcome Taken
 recordBefore file b z p = checked file b z andThen λ t. located (t .ground) p andThen takenBefore file
 
--- the reading of a point of a checked file
+-- the reading of a point of a checked file before request b): 4 and 5 for its own rectangle's record, then 6, else the reading
 abbrev pub pointBefore : List ℕ → Terrain → Point → Outcome Reading
 pointBefore file t p = located (t .ground) p andThen takenBefore file andThen readTaken file
 
--- the reading of a point
+-- the reading of a point before request b): 1, 2, 3 for the file, then the point in it
 abbrev pub readingBefore : List ℕ → ℕ → ℕ → Point → Outcome Reading
 readingBefore file b z p = checked file b z andThen λ t. pointBefore file t p
 
--- the path of a call with its profile
+-- the path of a call with its profile before request b): each sample read from its own rectangle's record
 abbrev pub linkedBefore : List ℕ → ℕ → ℕ → Asked → Outcome Link
 linkedBefore file b z asked =
     checked file b z

@@ -16,7 +16,7 @@ entry-before-requires c κs =
     let start = c .before .before .before in
     (start .pre .0, λ e. omega (arith, start .pre .1, west-number (start .args .place) (sym (c .before .allows-west .ensures) ∙ e)))
 
--- the rectangle to the west
+-- what comes of trying the rectangle to the west
 west : (c : tie.After-entry-before) → (
     let a = c .before .before .before .before .args in
     let s = a .place in
@@ -44,7 +44,7 @@ entry-before-requires-2 c κs =
     let start = c .before .before .before .before .before in
     (start .pre .0, λ e. omega (arith, start .pre .1, south-number (start .args .place) (sym (c .before .before .allows-south .ensures) ∙ e)))
 
--- the rectangle to the south
+-- what comes of trying the rectangle to the south
 south : (c : tie.After-entry-before2) → (
     let a = c .before .before .before .before .before .before .args in
     let s = a .place in
@@ -67,7 +67,7 @@ returns-2 c =
     let at = c .before .before in
     rw (c .in-south .ensures) (sym (west (at .before .before) .passed (at .before .if1 .left) ∙ south at .found (c .before .if2 .taken)))
 
--- both tests
+-- the two tests together are those of the definition
 both : (c : tie.Else2) → (
     let at = c .before .before .before .before in
     let s = at .before .before .before .args .place in
@@ -85,7 +85,7 @@ entry-before-requires-3 c κs =
           omega (arith, start .pre .1, corner-number (start .args .place) (sym (both c) ∙ t)),
     )
 
--- the rectangle to the south-west
+-- what comes of trying the rectangle to the south-west
 corner : (c : tie.After-entry-before3) → (
     let a = c .before .before .before .before .before .before .before .before .args in
     let s = a .place in
