@@ -1,7 +1,8 @@
-/* Asks the library and plain C the same questions about two made files.
+/* Asks the library and plain C the same questions about three made files.
  *   bench same                     compares all answers of the two over many questions, also about damaged files; exit 1 on a difference
  *   bench CALL SIDE FILE TIMES     makes the file, asks the call TIMES times, and prints its answer
- * CALL is check, read, read_seam, upload, profile, verdict, plan or plan_none; SIDE is library, plain or every_pair; FILE is hundred or all. */
+ * CALL is check, read, read_seam, spot, spot_seam, upload, profile, verdict, plan or plan_none; SIDE is library, plain or every_pair; FILE is hundred,
+ * all or most. */
 #include "plain.h"
 
 #include <stdbool.h>
@@ -28,11 +29,15 @@
 #define BAND_ROW 10u
 #define BAND 10u
 
+/* The files: with the hundred records of the band, with every rectangle, and with every rectangle and as many records as a file may have. */
+enum kind { HUNDRED, ALL, MOST };
+
 /* The calls of one side. */
 struct side {
     const char *name;
     struct janlishuk_check_answer (*check)(const uint8_t *, size_t, uint32_t, uint32_t);
     struct janlishuk_read_answer (*read)(const uint8_t *, size_t, uint32_t, uint32_t, struct janlishuk_point);
+    struct janlishuk_read_answer (*spot)(const uint8_t *, size_t, uint32_t, uint32_t, struct janlishuk_point);
     struct janlishuk_upload_answer (*upload)(const uint8_t *, size_t, uint32_t, uint32_t, const uint32_t *, size_t, const uint32_t *, size_t,
                                              uint32_t *, size_t, uint8_t *, size_t, uint8_t *, size_t);
     struct janlishuk_profile_answer (*profile)(const uint8_t *, size_t, uint32_t, uint32_t, struct janlishuk_point, struct janlishuk_point);
@@ -43,9 +48,9 @@ struct side {
 };
 
 static const struct side sides[] = {
-    {"library", janlishuk_check, janlishuk_read, janlishuk_upload, janlishuk_profile, janlishuk_verdict, janlishuk_plan},
-    {"plain", plain_check, plain_read, plain_upload, plain_profile, plain_verdict, plain_plan},
-    {"every_pair", plain_check, plain_read, plain_upload, plain_profile, plain_verdict, plain_plan_every_pair},
+    {"library", janlishuk_check, janlishuk_read, janlishuk_spot, janlishuk_upload, janlishuk_profile, janlishuk_verdict, janlishuk_plan},
+    {"plain", plain_check, plain_read, plain_spot, plain_upload, plain_profile, plain_verdict, plain_plan},
+    {"every_pair", plain_check, plain_read, plain_spot, plain_upload, plain_profile, plain_verdict, plain_plan_every_pair},
 };
 
 /* Room of each list: some entries more than a survey may have points. */
@@ -130,14 +135,15 @@ static void put_record(uint32_t record, uint32_t column, uint32_t row, bool ridg
 }
 
 /* Makes a file of the band alone or of every rectangle but 0, whose records are in no order, and answers its length. */
-static size_t make_file(bool all, bool ridge)
+static size_t make_file(enum kind kind, bool ridge)
 {
-    uint32_t records = all ? COLUMNS * ROWS - 1 : BAND * BAND;
+    uint32_t needed = kind == HUNDRED ? BAND * BAND : COLUMNS * ROWS - 1;
+    uint32_t records = kind == MOST ? 4096 - 6 : needed;
     uint32_t covered = 0;
     memset(file, 0, 6 * RECORD);
     for (uint32_t n = 1; n < COLUMNS * ROWS; n++) {
         uint32_t column = n % COLUMNS, row = n / COLUMNS;
-        if (!all && (column - BAND_COLUMN >= BAND || row - BAND_ROW >= BAND))
+        if (kind == HUNDRED && (column - BAND_COLUMN >= BAND || row - BAND_ROW >= BAND))
             continue;
         uint32_t record = 7 + 1009 * covered % records;
         covered++;
@@ -183,6 +189,15 @@ static void ask_read(const struct side *side, const struct question *q, unsigned
     _Alignas(4096) struct janlishuk_read_answer answer = {0};
     while (times-- > 0)
         answer = side->read(q->file, q->length, q->base, q->zone, q->first);
+    printf("refusal %u height %u code %u\n", answer.refusal, answer.height, answer.code);
+}
+
+/* Asks for a spot. */
+static void ask_spot(const struct side *side, const struct question *q, unsigned long times)
+{
+    _Alignas(4096) struct janlishuk_read_answer answer = {0};
+    while (times-- > 0)
+        answer = side->spot(q->file, q->length, q->base, q->zone, q->first);
     printf("refusal %u height %u code %u\n", answer.refusal, answer.height, answer.code);
 }
 
@@ -243,10 +258,11 @@ static void ask_plan(const struct side *side, const struct question *q, unsigned
     printf("refusal %u first %u second %u\n", answer.refusal, answer.first, answer.second);
 }
 
-/* All six answers to a question, with the lists that the upload fills. */
+/* All seven answers to a question, with the lists that the upload fills. */
 struct answers {
     struct janlishuk_check_answer check;
     struct janlishuk_read_answer read;
+    struct janlishuk_read_answer spot;
     struct janlishuk_upload_answer upload;
     struct filled lists;
     struct janlishuk_profile_answer profile;
@@ -254,11 +270,12 @@ struct answers {
     struct janlishuk_plan_answer plan;
 };
 
-/* Asks one side all six calls. Before the upload its lists hold the same on each side. */
+/* Asks one side all seven calls. Before the upload its lists hold the same on each side. */
 static void ask_all(const struct side *side, const struct question *q, struct answers *answers)
 {
     answers->check = side->check(q->file, q->length, q->base, q->zone);
     answers->read = side->read(q->file, q->length, q->base, q->zone, q->first);
+    answers->spot = side->spot(q->file, q->length, q->base, q->zone, q->first);
     memset(&answers->lists, 0xA5, sizeof answers->lists);
     answers->upload = upload(side, q, &answers->lists);
     answers->profile = side->profile(q->file, q->length, q->base, q->zone, q->first, q->second);
@@ -280,18 +297,20 @@ static bool equal_lists(const struct filled *p, const struct filled *q)
            memcmp(p->refusals, q->refusals, sizeof p->refusals) == 0;
 }
 
-/* Whether all six answers are equal in every field; those other than the profile have no gaps between their fields. */
+/* Whether all seven answers are equal in every field; those other than the profile have no gaps between their fields. */
 static bool equal_answers(const struct answers *p, const struct answers *q)
 {
     return memcmp(&p->check, &q->check, sizeof p->check) == 0 && memcmp(&p->read, &q->read, sizeof p->read) == 0 &&
-           memcmp(&p->upload, &q->upload, sizeof p->upload) == 0 && equal_lists(&p->lists, &q->lists) &&
-           equal_profiles(&p->profile, &q->profile) && memcmp(&p->verdict, &q->verdict, sizeof p->verdict) == 0 &&
-           memcmp(&p->plan, &q->plan, sizeof p->plan) == 0;
+           memcmp(&p->spot, &q->spot, sizeof p->spot) == 0 && memcmp(&p->upload, &q->upload, sizeof p->upload) == 0 &&
+           equal_lists(&p->lists, &q->lists) && equal_profiles(&p->profile, &q->profile) &&
+           memcmp(&p->verdict, &q->verdict, sizeof p->verdict) == 0 && memcmp(&p->plan, &q->plan, sizeof p->plan) == 0;
 }
 
-/* How many questions were compared, by the refusal of their plan, and by whether their upload was given, refused for its lists, or refused for
- * the file; and how many points were uploaded, by their own refusal. */
+/* How many questions were compared, by the refusal of their plan, by that of their spot, and by whether their upload was given, refused for its lists,
+ * or refused for the file; how many spots were read where the reading was refused; and how many points were uploaded, by their own refusal. */
 static unsigned long compared[10];
+static unsigned long spots[7];
+static unsigned long spots_alone;
 static unsigned long uploads[3];
 static unsigned long points[7];
 
@@ -310,6 +329,8 @@ static struct janlishuk_plan_answer compare(const struct question *q)
         exit(1);
     }
     compared[library.plan.refusal]++;
+    spots[library.spot.refusal]++;
+    spots_alone += library.spot.refusal == 0 && library.read.refusal == 3;
     uploads[library.upload.refusal == 0 ? 0 : library.upload.refusal == 10 ? 1 : 2]++;
     for (size_t k = 0; library.upload.refusal == 0 && k < q->survey.eastings_count; k++)
         points[library.lists.refusals[k]]++;
@@ -431,8 +452,8 @@ static void damage(struct question *q)
  * clear. Answers 1 unless every refusal was met. */
 static int same(void)
 {
-    for (int kind = 0; kind < 4; kind++) {
-        size_t length = make_file(kind & 1, kind & 2);
+    for (int kind = 0; kind < 6; kind++) {
+        size_t length = make_file((enum kind)(kind % 3), kind > 2);
         struct question q = long_path(length);
         compare(&q);
         for (int k = 0; k < 100; k++) {
@@ -441,12 +462,12 @@ static int same(void)
         }
     }
     for (int k = 0; k < 4000; k++) {
-        size_t length = make_file(k % 500 == 0, k % 8 == 1);
+        size_t length = make_file(k % 500 == 0 ? ALL : HUNDRED, k % 8 == 1);
         struct question q = some_question(length);
         damage(&q);
         compare(&q);
     }
-    size_t length = make_file(false, false);
+    size_t length = make_file(HUNDRED, false);
     for (int k = 0; k < 8000; k++) {
         if (k % 100 == 0)
             roughen(length);
@@ -462,8 +483,14 @@ static int same(void)
         printf(" %lu", compared[refusal]);
         every = every && compared[refusal] > 0;
     }
-    printf("; uploads given %lu, refused with 10 %lu, with 1 to 3 %lu; points 0, 4, 5, 6: %lu %lu %lu %lu", uploads[0], uploads[1], uploads[2],
-           points[0], points[4], points[5], points[6]);
+    printf("; spots by refusal 0 to 6:");
+    for (int refusal = 0; refusal < 7; refusal++) {
+        printf(" %lu", spots[refusal]);
+        every = every && spots[refusal] > 0;
+    }
+    every = every && spots_alone > 0;
+    printf(", read where the reading is refused %lu; uploads given %lu, refused with 10 %lu, with 1 to 3 %lu; points 0, 4, 5, 6: %lu %lu %lu %lu", spots_alone, uploads[0], uploads[1],
+           uploads[2], points[0], points[4], points[5], points[6]);
     every = every && uploads[0] > 0 && uploads[1] > 0 && uploads[2] > 0 && points[0] > 0 && points[4] > 0 && points[5] > 0 && points[6] > 0;
     printf("%s\n", every ? "" : ", not all of them met");
     return every ? 0 : 1;
@@ -472,7 +499,7 @@ static int same(void)
 /* The north-eastern corner of the band. Where the band alone is covered, it is read from the last of the four rectangles that are tried. */
 static const struct janlishuk_point seam = {ZONE, WEST + 7500 * (BAND_COLUMN + BAND), SOUTH + 15500 * (BAND_ROW + BAND)};
 
-/* A call of the measured ones, by its name; plan_none is asked of a file with a ridge, read_seam of a point on a seam. */
+/* A call of the measured ones, by its name; plan_none is asked of a file with a ridge, read_seam and spot_seam of a point on a seam. */
 struct call {
     const char *name;
     void (*ask)(const struct side *side, const struct question *q, unsigned long times);
@@ -482,22 +509,27 @@ struct call {
 
 static const struct call calls[] = {
     {"check", ask_check, false, false},     {"read", ask_read, false, false},       {"read_seam", ask_read, false, true},
-    {"upload", ask_upload, false, false},   {"profile", ask_profile, false, false}, {"verdict", ask_verdict, false, false},
-    {"plan", ask_plan, false, false},       {"plan_none", ask_plan, true, false},
+    {"spot", ask_spot, false, false},       {"spot_seam", ask_spot, false, true},   {"upload", ask_upload, false, false},
+    {"profile", ask_profile, false, false}, {"verdict", ask_verdict, false, false}, {"plan", ask_plan, false, false},
+    {"plan_none", ask_plan, true, false},
 };
+
+/* The names of the files, in the order of their kinds. */
+static const char *const kinds[] = {"hundred", "all", "most"};
 
 /* Asks what the arguments name; 2 where they name nothing. */
 int main(int argc, char **argv)
 {
     if (argc == 2 && strcmp(argv[1], "same") == 0)
         return same();
-    bool all = argc == 5 && strcmp(argv[3], "all") == 0;
-    bool named = all || (argc == 5 && strcmp(argv[3], "hundred") == 0);
-    for (size_t c = 0; named && c < sizeof calls / sizeof calls[0]; c++) {
+    int kind = HUNDRED;
+    while (argc == 5 && kind <= MOST && strcmp(argv[3], kinds[kind]) != 0)
+        kind++;
+    for (size_t c = 0; argc == 5 && kind <= MOST && c < sizeof calls / sizeof calls[0]; c++) {
         for (size_t s = 0; s < sizeof sides / sizeof sides[0]; s++) {
             if (strcmp(argv[1], calls[c].name) != 0 || strcmp(argv[2], sides[s].name) != 0)
                 continue;
-            struct question q = long_path(make_file(all, calls[c].ridge));
+            struct question q = long_path(make_file((enum kind)kind, calls[c].ridge));
             if (calls[c].seam)
                 q.first = seam;
             calls[c].ask(&sides[s], &q, strtoul(argv[4], NULL, 10));

@@ -1,4 +1,5 @@
-/* The calls check, read, profile, verdict and plan as document 01 and request b) of document 02 have them, and upload as document 02 has it, in plain C. */
+/* The calls check, read, profile, verdict and plan as document 01 and request b) of document 02 have them, and upload and spot as document 02 has
+ * them, in plain C. */
 #include "plain.h"
 
 #include <stdbool.h>
@@ -27,7 +28,7 @@
 static const uint16_t southern[] = {0,     899,   1767,  2666,  3534,  4433,  5301,  6200,  7068,  7967,  8866,
                                     9734,  10633, 11532, 12400, 13299, 14198, 15097, 15965, 16864, 17763, 18662};
 
-/* A file that passes and its ground, whose southern boundary and extent to the north are in metres. */
+/* A file that was opened and its ground, whose southern boundary and extent to the north are in metres. */
 struct ground {
     const uint8_t *file;
     uint32_t zone;
@@ -87,8 +88,8 @@ static bool index_passes(const uint8_t *file, size_t highest, size_t end)
     return true;
 }
 
-/* Opens a file with its base and zone: refusals 1, 2 and 3 in that order, else 0 and its ground. */
-static uint32_t open_file(const uint8_t *file, size_t length, uint32_t base, uint32_t zone, struct ground *ground)
+/* Opens a file with its base and zone, of whose index only M is looked at: refusals 1, 2, and 3 for M outside its range, else 0 and its ground. */
+static inline uint32_t open_file(const uint8_t *file, size_t length, uint32_t base, uint32_t zone, struct ground *ground)
 {
     if (length % RECORD_BYTES != 0 || length < LEAST_RECORDS * RECORD_BYTES || length > MOST_RECORDS * RECORD_BYTES)
         return 1;
@@ -99,10 +100,17 @@ static uint32_t open_file(const uint8_t *file, size_t length, uint32_t base, uin
         return 3;
     uint32_t south = southern[base / 4];
     uint32_t units = southern[base / 4 + 1] - south;
-    if (!index_passes(file, highest, COLUMNS * (units / UNITS_NORTH)))
-        return 3;
     *ground = (struct ground){.file = file, .zone = zone, .south = UNIT * south, .extent = UNIT * units, .highest = highest};
     return 0;
+}
+
+/* Opens a file and checks its whole index: refusals 1, 2 and 3 in that order, else 0 and its ground. */
+static uint32_t check_file(const uint8_t *file, size_t length, uint32_t base, uint32_t zone, struct ground *ground)
+{
+    uint32_t refusal = open_file(file, length, base, zone, ground);
+    if (refusal != 0)
+        return refusal;
+    return index_passes(file, ground->highest, COLUMNS * (ground->extent / (UNIT * UNITS_NORTH))) ? 0 : 3;
 }
 
 /* Whether a point is of the file's zone and on its ground. */
@@ -124,28 +132,20 @@ static inline const uint8_t *word_at(const uint8_t *file, uint32_t record, uint3
 }
 
 /* The word of a point whose own rectangle is not covered, in the first covered of the rectangles to the west, south and south-west on whose
- * edge it lies, for its units and metres past them; null where none is. */
-static const uint8_t *find_beside(const uint8_t *file, uint32_t x, uint32_t y, uint32_t fx, uint32_t fy)
+ * edge it lies, for its units and metres past them, and that rectangle's record; null and 0 where none is. */
+static const uint8_t *find_beside(const uint8_t *file, uint32_t x, uint32_t y, uint32_t fx, uint32_t fy, uint32_t *record)
 {
-    uint32_t rectangle = COLUMNS * (y / UNITS_NORTH) + x / UNITS_EAST, record;
+    uint32_t rectangle = COLUMNS * (y / UNITS_NORTH) + x / UNITS_EAST;
     bool west = x >= UNITS_EAST && x % UNITS_EAST == 0 && fx == 0;
     bool south = y >= UNITS_NORTH && y % UNITS_NORTH == 0 && fy == 0;
-    if (west && (record = entry(file, rectangle - 1)) != 0)
-        return word_at(file, record, y % UNITS_NORTH, UNITS_EAST);
-    if (south && (record = entry(file, rectangle - COLUMNS)) != 0)
-        return word_at(file, record, UNITS_NORTH, x % UNITS_EAST);
-    if (west && south && (record = entry(file, rectangle - COLUMNS - 1)) != 0)
-        return word_at(file, record, UNITS_NORTH, UNITS_EAST);
+    if (west && (*record = entry(file, rectangle - 1)) != 0)
+        return word_at(file, *record, y % UNITS_NORTH, UNITS_EAST);
+    if (south && (*record = entry(file, rectangle - COLUMNS)) != 0)
+        return word_at(file, *record, UNITS_NORTH, x % UNITS_EAST);
+    if (west && south && (*record = entry(file, rectangle - COLUMNS - 1)) != 0)
+        return word_at(file, *record, UNITS_NORTH, UNITS_EAST);
+    *record = 0;
     return NULL;
-}
-
-/* The part of a file from the south-west corner of a point on, in the point's own rectangle; null where that is not covered. */
-static inline const uint8_t *find_corner(const uint8_t *file, uint32_t x, uint32_t y)
-{
-    uint32_t record = entry(file, COLUMNS * (y / UNITS_NORTH) + x / UNITS_EAST);
-    if (record == 0)
-        return NULL;
-    return word_at(file, record, y % UNITS_NORTH, x % UNITS_EAST);
 }
 
 /* Whether a corner weighs in and has no height. */
@@ -160,24 +160,37 @@ static inline uint32_t greater(const uint32_t *sums, uint32_t code, uint32_t oth
     return sums[other] > sums[code] || (sums[other] == sums[code] && other < code) ? other : code;
 }
 
-/* Reads a point's exact height, and its surface code unless that is null: refusals 4, 5 and 6 in that order, else 0. */
-static uint32_t read_point(const struct ground *ground, const struct janlishuk_point *point, uint32_t *height, uint8_t *code)
+/* Whether an entry names a record, one from 7 to M. */
+static inline bool is_record(const struct ground *ground, uint32_t entry)
+{
+    return entry - LEAST_RECORDS - 1 < ground->highest - LEAST_RECORDS;
+}
+
+/* Reads a point's exact height, and its surface code unless that is null: refusals 4, 5 and 6 in that order, else 0; where the file was only
+ * opened, not checked, refusals 4, 3 for an entry that names no record, 5 and 6. */
+static inline __attribute__((always_inline)) uint32_t read_in(const struct ground *ground, const struct janlishuk_point *point, bool checked,
+                                                              uint32_t *height, uint8_t *code)
 {
     if (!on_ground(ground, point))
         return 4;
     uint32_t east = point->easting - WEST, north = point->northing - ground->south;
-    uint32_t fx = east % UNIT, fy = north % UNIT;
-    const uint8_t *corner = find_corner(ground->file, east / UNIT, north / UNIT);
+    uint32_t x = east / UNIT, y = north / UNIT, fx = east % UNIT, fy = north % UNIT;
+    uint32_t record = entry(ground->file, COLUMNS * (y / UNITS_NORTH) + x / UNITS_EAST);
     uint32_t sw, se, nw, ne;
-    if (corner != NULL) {
+    if (record != 0) {
+        if (!checked && !is_record(ground, record))
+            return 3;
+        const uint8_t *corner = word_at(ground->file, record, y % UNITS_NORTH, x % UNITS_EAST);
         sw = number_at(corner);
         se = number_at(corner + 2);
         nw = number_at(corner + 2 * ROW_WORDS);
         ne = number_at(corner + 2 * ROW_WORDS + 2);
     } else {
-        corner = find_beside(ground->file, east / UNIT, north / UNIT, fx, fy);
-        if (corner == NULL)
+        const uint8_t *corner = find_beside(ground->file, x, y, fx, fy, &record);
+        if (record == 0)
             return 5;
+        if (!checked && !is_record(ground, record))
+            return 3;
         /* a corner that does not weigh in may lie past the record, even past the file: it is not looked at */
         sw = number_at(corner);
         se = fx > 0 ? number_at(corner + 2) : 0;
@@ -201,6 +214,12 @@ static uint32_t read_point(const struct ground *ground, const struct janlishuk_p
     return 0;
 }
 
+/* Reads a point of a checked file: refusals 4, 5 and 6 in that order, else 0. */
+static uint32_t read_point(const struct ground *ground, const struct janlishuk_point *point, uint32_t *height, uint8_t *code)
+{
+    return read_in(ground, point, true, height, code);
+}
+
 /* The least whole number N of at least 1 with (500 N)^2 >= Q, for Q from 1 to 10,000,000,000. */
 static uint32_t least_steps(uint64_t q)
 {
@@ -221,7 +240,7 @@ static uint32_t open_path(const uint8_t *file, size_t length, uint32_t base, uin
                           struct janlishuk_point second, struct path *path)
 {
     path->place = 0;
-    uint32_t refusal = open_file(file, length, base, zone, &path->ground);
+    uint32_t refusal = check_file(file, length, base, zone, &path->ground);
     if (refusal != 0)
         return refusal;
     if (!on_ground(&path->ground, &first) || !on_ground(&path->ground, &second))
@@ -308,22 +327,35 @@ static bool is_clear(const struct needs *needs, uint32_t a, uint32_t b)
 struct janlishuk_check_answer plain_check(const uint8_t *file, size_t length, uint32_t base, uint32_t zone)
 {
     struct ground ground;
-    uint32_t refusal = open_file(file, length, base, zone, &ground);
+    uint32_t refusal = check_file(file, length, base, zone, &ground);
     return (struct janlishuk_check_answer){.refusal = refusal, .highest = refusal == 0 ? ground.highest : 0};
+}
+
+/* The reading of one point, with a check of the whole index or without one. */
+static inline __attribute__((always_inline)) struct janlishuk_read_answer answer_point(const uint8_t *file, size_t length, uint32_t base,
+                                                                                       uint32_t zone, struct janlishuk_point point, bool checked)
+{
+    struct ground ground;
+    uint32_t height = 0;
+    uint8_t code = 0;
+    uint32_t refusal = checked ? check_file(file, length, base, zone, &ground) : open_file(file, length, base, zone, &ground);
+    if (refusal == 0)
+        refusal = checked ? read_point(&ground, &point, &height, &code) : read_in(&ground, &point, false, &height, &code);
+    if (refusal != 0)
+        return (struct janlishuk_read_answer){.refusal = refusal};
+    return (struct janlishuk_read_answer){.height = height, .code = code};
 }
 
 /* The reading of one point. */
 struct janlishuk_read_answer plain_read(const uint8_t *file, size_t length, uint32_t base, uint32_t zone, struct janlishuk_point point)
 {
-    struct ground ground;
-    uint32_t height;
-    uint8_t code;
-    uint32_t refusal = open_file(file, length, base, zone, &ground);
-    if (refusal == 0)
-        refusal = read_point(&ground, &point, &height, &code);
-    if (refusal != 0)
-        return (struct janlishuk_read_answer){.refusal = refusal};
-    return (struct janlishuk_read_answer){.height = height, .code = code};
+    return answer_point(file, length, base, zone, point, true);
+}
+
+/* The reading of one spot. */
+struct janlishuk_read_answer plain_spot(const uint8_t *file, size_t length, uint32_t base, uint32_t zone, struct janlishuk_point point)
+{
+    return answer_point(file, length, base, zone, point, false);
 }
 
 /* The readings of a survey's points: one check of the file, then each point as a reading; beside a refusal nothing is written. */
@@ -334,7 +366,7 @@ struct janlishuk_upload_answer plain_upload(const uint8_t *file, size_t length, 
 {
     struct ground ground;
     size_t count = eastings_count;
-    uint32_t refusal = open_file(file, length, base, zone, &ground);
+    uint32_t refusal = check_file(file, length, base, zone, &ground);
     if (refusal != 0)
         return (struct janlishuk_upload_answer){.refusal = refusal};
     if (northings_count != count || count > MOST_POINTS || heights_room < count || codes_room < count || refusals_room < count)

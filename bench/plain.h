@@ -8,6 +8,8 @@ struct janlishuk_check_answer plain_check(const uint8_t *file, size_t length, ui
 
 struct janlishuk_read_answer plain_read(const uint8_t *file, size_t length, uint32_t base, uint32_t zone, struct janlishuk_point point);
 
+struct janlishuk_read_answer plain_spot(const uint8_t *file, size_t length, uint32_t base, uint32_t zone, struct janlishuk_point point);
+
 struct janlishuk_upload_answer plain_upload(const uint8_t *file, size_t length, uint32_t base, uint32_t zone, const uint32_t *eastings,
                                             size_t eastings_count, const uint32_t *northings, size_t northings_count, uint32_t *heights,
                                             size_t heights_room, uint8_t *codes, size_t codes_room, uint8_t *refusals,

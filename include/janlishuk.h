@@ -21,8 +21,9 @@
  *
  * Refusals. `refusal` 0 means that the answer is given. Else it is the first of these that holds, in the order 1, 2, 3, then for a point
  * 4, 5, 6; for a path 4 for the first end, 4 for the second, 7, 8, then 4, 5, 6 at each sample from 0 upward, then 9. Each call says
- * which numbers it can give, and skips the others. Numbers from 10 on are of document 02, in which customers asked for more calls than the
- * first nine, and each such call says where its own number stands in the order.
+ * which numbers it can give, and skips the others. janlishuk_spot tries only a part of 3, in two places of the order, which it names. Numbers
+ * from 10 on are of document 02, in which customers asked for more calls than the first nine, and each such call says where its own number
+ * stands in the order.
  *   1  the length is not 1024 times a number from 6 to 4096
  *   2  the base is not 0, 4, .. 80, or the zone not 1 to 60
  *   3  the index breaks the rules of a file: the highest record number is not from 6 to the record count, or a position holds a number
@@ -137,8 +138,8 @@ struct janlishuk_engine_row_answer {
 };
 
 /* Checks a file. highest: M, the highest record number that the file states, from 6 to its record count; not every record up to it need
- * be in use, so it does not say how many rectangles are covered. Refusals 1, 2, 3. Every other call that takes a file makes the same
- * check first, so there is no need to call this one before them. */
+ * be in use, so it does not say how many rectangles are covered. Refusals 1, 2, 3. Every other call that takes a file, but for
+ * janlishuk_spot, makes the same check first, so there is no need to call this one before it. */
 struct janlishuk_check_answer janlishuk_check(const uint8_t *file, size_t length, uint32_t base, uint32_t zone);
 
 /* The name of the file of a base and a zone. name: four bytes of ASCII with no 0 after them, as NK17. Refusal 2. */
@@ -149,6 +150,19 @@ struct janlishuk_base_answer janlishuk_base(uint32_t northing);
 
 /* Reads the ground at a point. height: in 1/250,000 m, exact, at most 2,047,500,000. code: its surface code. Refusals 1 to 6. */
 struct janlishuk_read_answer janlishuk_read(const uint8_t *file, size_t length, uint32_t base, uint32_t zone, struct janlishuk_point point);
+
+/* Reads the ground at one spot without a check of the whole index. It takes the same arguments as janlishuk_read, its answer has the same
+ * fields in the same units, and for every file that passes the check the two give the same answer, refusals included. Of the index it looks
+ * at the highest record number, and at the positions of the rectangles that the point may be read from, in the order told under Seams, up to
+ * the first that holds a number other than 0; at no others, so it costs the same however large the file is. Refusals, in this order: 1, 2, 3
+ * where the highest record number is not from 6 to the record count, 4, 3 where that first number is below 7 or above the highest record
+ * number, 5, 6; place is 0. An answer, or 4, 5 or 6, does not say that the file passes the check: of a file that is refused with 3, as one
+ * with its name stamped into its first bytes, most points may be read.
+ *
+ * Use janlishuk_read for all that a mast may be built on, since it answers only where the whole index keeps the rules, and no two
+ * rectangles name one record. Use janlishuk_spot for a quick look at single points, where the check of the whole index takes too long: it
+ * vouches for one entry, not for the file, and may read a record that a damaged index gives to another rectangle too. */
+struct janlishuk_read_answer janlishuk_spot(const uint8_t *file, size_t length, uint32_t base, uint32_t zone, struct janlishuk_point point);
 
 /* Reads the points of a survey, at most 256, with one check of the file. eastings and northings: point k is the one with easting
  * eastings[k] and northing northings[k], in metres and of the file's zone; the two lists have the same count, which may be 0. heights,

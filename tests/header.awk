@@ -83,7 +83,8 @@ reading && /-> / {
     result = substr(signature, RSTART + RLENGTH)
     gsub(/ /, "", result)
     gives[call] = result
-    header[result] = call "_answer"
+    # a struct that several calls give back has the name of the first
+    if (!(result in header)) header[result] = call "_answer"
 }
 
 END {

@@ -12,7 +12,7 @@
 const char *call_name(enum call call)
 {
     static const char *const names[CALLS] = {
-        "check", "name", "base", "read", "upload", "engine_point", "profile", "verdict", "plan", "engine_row",
+        "check", "name", "base", "read", "spot", "upload", "engine_point", "profile", "verdict", "plan", "engine_row",
     };
     return names[call];
 }
@@ -27,6 +27,7 @@ void ask_library(const struct file *file, const struct question *q, union answer
     case NAME: answer->name = janlishuk_name(q->base, q->zone); break;
     case BASE: answer->base = janlishuk_base(q->first.northing); break;
     case READ: answer->read = janlishuk_read(bytes, length, q->base, q->zone, q->first); break;
+    case SPOT: answer->read = janlishuk_spot(bytes, length, q->base, q->zone, q->first); break;
     case UPLOAD: answer->upload = upload_to_library(file, q); break;
     case ENGINE_POINT: answer->engine_point = janlishuk_engine_point(bytes, length, q->base, q->zone, q->first); break;
     case PROFILE: answer->profile = janlishuk_profile(bytes, length, q->base, q->zone, q->first, q->second); break;
@@ -46,6 +47,7 @@ void ask_rules(const struct file *file, const struct question *q, union answer *
     case NAME: answer->name = rules_name(q->base, q->zone); break;
     case BASE: answer->base = rules_base(q->first.northing); break;
     case READ: answer->read = rules_read(asked, q->first); break;
+    case SPOT: answer->read = rules_spot(asked, q->first); break;
     case UPLOAD: answer->upload = upload_by_rules(asked, &q->survey); break;
     case ENGINE_POINT: answer->engine_point = rules_engine_point(asked, q->first); break;
     case PROFILE: answer->profile = rules_profile(asked, q->first, q->second); break;
@@ -91,6 +93,7 @@ static size_t fields_of(enum call call, const union answer *answer, uint64_t fie
         break;
     case BASE: fields[count++] = answer->base.base; break;
     case READ:
+    case SPOT:
         fields[count++] = answer->read.height;
         fields[count++] = answer->read.code;
         break;
@@ -120,8 +123,8 @@ static void field_name(enum call call, size_t field, char name[32])
 {
     static const char *const names[CALLS][6] = {
         [CHECK] = {"highest"}, [NAME] = {"name[0]", "name[1]", "name[2]", "name[3]"}, [BASE] = {"base"}, [READ] = {"height", "code"},
-        [ENGINE_POINT] = {"kind", "code", "metres (bits)"}, [PROFILE] = {"n"}, [VERDICT] = {"clear"}, [PLAN] = {"first", "second"},
-        [ENGINE_ROW] = {"height (bits)", "share (bits)"},
+        [SPOT] = {"height", "code"}, [ENGINE_POINT] = {"kind", "code", "metres (bits)"}, [PROFILE] = {"n"}, [VERDICT] = {"clear"},
+        [PLAN] = {"first", "second"}, [ENGINE_ROW] = {"height (bits)", "share (bits)"},
     };
     if (field < 2)
         snprintf(name, 32, "%s", field == 0 ? "refusal" : "place");
@@ -140,6 +143,18 @@ bool same_answer(enum call call, const union answer *library, const union answer
     size_t count = fields_of(call, library, fields[0]);
     fields_of(call, rules, fields[1]);
     return memcmp(fields[0], fields[1], count * sizeof fields[0][0]) == 0 && (call != UPLOAD || same_lists());
+}
+
+/* Whether the rules give for a spot what they give for a reading; asked of every point of these two calls in a file that passes the check,
+ * and true of all other questions. */
+bool rules_agree(const struct file *file, const struct question *q)
+{
+    struct rules_file asked = opened(file, q->base, q->zone);
+    if ((q->call != READ && q->call != SPOT) || rules_check(asked).refusal != 0)
+        return true;
+    union answer read = {.read = rules_read(asked, q->first)};
+    union answer spot = {.read = rules_spot(asked, q->first)};
+    return same_answer(READ, &spot, &read);
 }
 
 /* Prints both answers field by field, with a mark where they differ, and of the lists of an upload the first entries that differ. */

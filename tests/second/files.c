@@ -22,10 +22,16 @@ static uint8_t kept[MOST_BYTES];
 static struct ground ground;
 
 /* Writes a 16-bit number, high byte first. */
-static void put(uint8_t *two, uint32_t number)
+void put(uint8_t *two, uint32_t number)
 {
     two[0] = (uint8_t)(number / 256);
     two[1] = (uint8_t)(number % 256);
+}
+
+/* A value for all bytes of records that no rectangle has: often such that none of their words has a height. */
+int draw_filler(void)
+{
+    return chance(35) ? 0xFF : (int)below(256);
 }
 
 /* Covers the rectangles of a box, but not rectangle 0, nor about `percent_left_out` of a hundred. */
@@ -70,18 +76,17 @@ static void cover_one(struct file *file, uint32_t rectangle)
 /* A column or a row of rectangles: often the first, the one after it or the last. */
 static uint32_t draw_line(uint32_t count)
 {
-    return chance(12) ? 0 : chance(20) ? 1 : chance(12) ? count - 1 : below(count);
+    return chance(15) ? 0 : chance(20) ? 1 : chance(12) ? count - 1 : below(count);
 }
 
 /* Covers some of the four rectangles about a corner, numbers n, n - 1, n - 100 and n - 101 where there are such: any choice of them, or
- * often the last alone. In column 0 two of them lie at the other end of the ground. */
+ * often the last alone, or the third with or without it. In column 0 two of them lie at the other end of the ground. */
 static void cover_about(struct file *file, uint32_t own)
 {
-    static const uint32_t steps[4] = {0, 1, 100, 101};
-    uint32_t chosen = chance(20) ? 1u << 3 : below(16);
-    for (uint32_t k = 0; k < 4; k++)
-        if (own > steps[k] && (chosen >> k & 1) != 0)
-            cover_one(file, own - steps[k]);
+    uint32_t chosen = chance(20) ? 1u << RULES_SOUTH_WEST : chance(20) ? (below(2) * 2 + 1) << RULES_SOUTH : below(16);
+    for (uint32_t k = 0; k < RULES_NONE; k++)
+        if (own > steps_back[k] && (chosen >> k & 1) != 0)
+            cover_one(file, own - steps_back[k]);
 }
 
 /* Whether a corner has a rectangle about it in common with a remembered one. */
@@ -113,7 +118,7 @@ static void cover_corners(struct file *file, uint32_t all_rows)
 }
 
 /* Chooses the rectangles that a file covers: none, a few, some here and there, any about some corners, about a hundred side by side with or
- * without gaps, or every one. Files that are to be damaged are mostly small. */
+ * without gaps, or every one. Files that are to be damaged are mostly small, and those to be damaged about corners have corners. */
 static void cover(struct file *file)
 {
     static const uint32_t few[5][2] = {{1, 1}, {2, 1}, {1, 2}, {2, 2}, {3, 2}};
@@ -124,17 +129,17 @@ static void cover(struct file *file)
     uint32_t kind = file->damage == WHOLE ? below(100) : below(50);
     file->covered_count = 0;
     file->corner_count = 0;
-    if (kind < 4)
-        cover_box(file, draw_box(2, 2, all_rows), 100);
-    else if (kind < 14)
-        cover_box(file, draw_box(small[0], small[1], all_rows), 0);
-    else if (kind < 18)
-        cover_scattered(file, all_rows);
-    else if (kind < 40)
+    if (file->damage == CORNERED || kind < 26)
         cover_corners(file, all_rows);
-    else if (kind < 75)
+    else if (kind < 32)
+        cover_box(file, draw_box(2, 2, all_rows), 100);
+    else if (kind < 40)
+        cover_box(file, draw_box(small[0], small[1], all_rows), 0);
+    else if (kind < 44)
+        cover_scattered(file, all_rows);
+    else if (kind < 77)
         cover_box(file, draw_box(large[0], large[1], all_rows), 0);
-    else if (kind < 90)
+    else if (kind < 91)
         cover_box(file, draw_box(large[0], large[1], all_rows), between(1, 5));
     else
         cover_box(file, draw_box(100, all_rows, all_rows), kind < 98 ? 0 : 2);
@@ -260,7 +265,7 @@ static void take_height(struct file *file, uint32_t rectangle, uint8_t *record, 
     uint8_t *two = record + 2 * (word - 1);
     put(two, 256u * (two[0] | 0x1F) + 0xFF);
     if (file->missing_count < MOST_MISSING)
-        file->missing[file->missing_count++] = (struct spot){.rectangle = rectangle, .word = word};
+        file->missing[file->missing_count++] = (struct missing){.rectangle = rectangle, .word = word};
 }
 
 /* Takes the heights of an edge of a rectangle, mostly of the last column or the last row, of its four corners, or of all its words; in some
@@ -328,7 +333,7 @@ void make_file(struct file *file, uint32_t number)
     draw_records(file, &highest, &records);
     file->length = 1024 * (size_t)records;
     write_index(file, highest, record_of);
-    memset(file->bytes + 6 * 1024, (int)below(256), file->length - 6 * 1024);
+    memset(file->bytes + 6 * 1024, draw_filler(), file->length - 6 * 1024);
     draw_elevations(file);
     draw_codes();
     for (uint32_t k = 0; k < file->covered_count; k++)

@@ -8,8 +8,7 @@
 
 #include "second.h"
 
-static uint8_t *area;
-static size_t area_size;
+static struct pages pages;
 
 /* Ends the run where memory cannot be had. */
 void need(bool done, const char *what)
@@ -20,25 +19,35 @@ void need(bool done, const char *what)
     }
 }
 
-/* Copies the file into pages of its own and shuts them to writing. Mostly its last byte is the last before the page beyond, and for some
- * files its first byte is the first after the page before; where the length is a multiple of a page, both hold. Some files of no
- * bytes are lent as a null pointer. */
-void lend_file(struct file *file)
+/* Pages for the bytes of a file, none of which can be touched yet. Mostly the file's last byte is the last before the page beyond, and for
+ * some files its first byte is the first after the page before; where the length is a multiple of a page, both hold. */
+struct pages map_file(const struct file *file)
 {
     size_t page = (size_t)sysconf(_SC_PAGESIZE);
-    size_t inner = (file->length + page - 1) / page * page;
-    area_size = inner + 2 * page;
-    area = mmap(NULL, area_size, PROT_NONE, MAP_PRIVATE | MAP_ANONYMOUS | MAP_NORESERVE, -1, 0);
-    need(area != MAP_FAILED, "mmap");
-    uint8_t *start = area + page;
-    uint8_t *lent = file->number % 4 == 3 ? start : start + (inner - file->length);
-    if (inner > 0) {
-        need(mprotect(start, inner, PROT_READ | PROT_WRITE) == 0, "mprotect");
-        memset(start, 0xA5, (size_t)(lent - start));
-        memcpy(lent, file->bytes, file->kept);
-        need(mprotect(start, inner, PROT_READ) == 0, "mprotect");
-    }
-    file->lent = file->length == 0 && file->number % 2 == 1 ? NULL : lent;
+    struct pages mapped = {.inner_size = (file->length + page - 1) / page * page};
+    mapped.size = mapped.inner_size + 2 * page;
+    mapped.area = mmap(NULL, mapped.size, PROT_NONE, MAP_PRIVATE | MAP_ANONYMOUS | MAP_NORESERVE, -1, 0);
+    need(mapped.area != MAP_FAILED, "mmap");
+    mapped.inner = mapped.area + page;
+    mapped.bytes = file->number % 4 == 3 ? mapped.inner : mapped.inner + (mapped.inner_size - file->length);
+    return mapped;
+}
+
+/* Opens the pages from `start` on to reading or writing, or shuts them; there may be none. */
+void open_pages(uint8_t *start, size_t size, int protection)
+{
+    need(size == 0 || mprotect(start, size, protection) == 0, "mprotect");
+}
+
+/* Copies the file into pages of its own and shuts them to writing. Some files of no bytes are lent as a null pointer. */
+void lend_file(struct file *file)
+{
+    pages = map_file(file);
+    open_pages(pages.inner, pages.inner_size, PROT_READ | PROT_WRITE);
+    memset(pages.inner, 0xA5, (size_t)(pages.bytes - pages.inner));
+    memcpy(pages.bytes, file->bytes, file->kept);
+    open_pages(pages.inner, pages.inner_size, PROT_READ);
+    file->lent = file->length == 0 && file->number % 2 == 1 ? NULL : pages.bytes;
 }
 
 /* Whether the lent bytes are still those of the file. */
@@ -50,6 +59,6 @@ bool same_bytes(const struct file *file)
 /* Gives the pages back. */
 void take_back_file(struct file *file)
 {
-    munmap(area, area_size);
+    munmap(pages.area, pages.size);
     file->lent = NULL;
 }

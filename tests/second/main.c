@@ -1,10 +1,11 @@
 /* The second program: makes files and questions, and compares every answer of the library, and all that it leaves in lent lists, with that
- * of the rules of documents 01 and 02.
+ * of the rules of documents 01 and 02. A spot is asked a second time, of a copy in which all that it does not look at is drawn.
  *
  * Usage: second [SEED [COUNT]], with the seed of the drawn numbers and the number of questions, a question being one call compared. The
  * questions of a seed are the same whatever the count. Ends with 1 at the first answer or entry of a list that differs, at a byte of a file
- * that changed, at a touch of memory that was not lent, and, where COUNT is at least 20,000, where something that can come up never did;
- * below that the table is only printed. */
+ * that changed, at a touch of memory that was not lent or is not for a spot to look at, where the rules of a spot and those of a reading
+ * differ on a file that passes, and, where COUNT is at least 20,000, where something that can come up never did; below that the table is
+ * only printed. */
 #define _DEFAULT_SOURCE
 #include <inttypes.h>
 #include <signal.h>
@@ -18,7 +19,8 @@
 #define DEFAULT_COUNT 100000
 #define COUNT_THAT_MUST_HAVE_ALL 20000
 #define QUESTIONS_OF_WHOLE 100
-#define QUESTIONS_OF_DAMAGED 20
+#define QUESTIONS_OF_BAD_ENTRIES 60
+#define QUESTIONS_OF_OTHERS 20
 
 static uint64_t seed = DEFAULT_SEED;
 static uint64_t count = DEFAULT_COUNT;
@@ -34,16 +36,26 @@ static void print_where(const char *what)
     print_question(&file, &question);
 }
 
-/* Ends the run where the file or a list of points was written to, or memory was touched that was not lent. */
+/* Ends the run where the file or a list of points was written to, or memory was touched that was not lent, or not for a spot to look at. */
 static void on_fault(int number)
 {
     printf("signal %d while an answer came from the %s\n", number, answering);
-    print_where("the file or a list of points was written to, or memory touched that was not lent");
+    print_where("the file or a list of points was written to, or memory touched that was not lent, or not for a spot to look at");
     fflush(stdout);
     _exit(1);
 }
 
-/* Asks one question of both and compares; ends the run where the answers differ. */
+/* Ends the run where an answer of the library differs from that of the rules. */
+static void compare(const char *what, const union answer *library, const union answer *rules)
+{
+    if (same_answer(question.call, library, rules))
+        return;
+    print_where(what);
+    print_answers(&question, library, rules);
+    exit(1);
+}
+
+/* Asks one question of both and compares, and a spot also of a copy; ends the run where the answers differ. */
 static void ask(void)
 {
     static union answer library;
@@ -54,12 +66,26 @@ static void ask(void)
     ask_library(&file, &question, &library);
     answering = "rules";
     ask_rules(&file, &question, &rules);
-    if (!same_answer(question.call, &library, &rules)) {
-        print_where("the answers differ");
-        print_answers(&question, &library, &rules);
+    compare("the answers differ", &library, &rules);
+    if (!rules_agree(&file, &question)) {
+        print_where("the rules of a spot and those of a reading differ on a file that passes");
         exit(1);
     }
+    if (can_ask_blind(&file, &question)) {
+        answering = "library, lent a copy in which all that a spot does not look at is drawn";
+        ask_blind(&file, &question, &library);
+        compare("the answer differs with bytes that a spot does not look at", &library, &rules);
+        tally_blind(rules.read.refusal);
+    }
     tally_answer(&file, &question, &rules);
+}
+
+/* How many questions the file is asked: most where it is whole, and of the damaged most where a spot may still be read. */
+static uint32_t questions_of_file(void)
+{
+    if (file.damage == WHOLE)
+        return QUESTIONS_OF_WHOLE;
+    return spots_may_differ(&file) ? QUESTIONS_OF_BAD_ENTRIES : QUESTIONS_OF_OTHERS;
 }
 
 /* Makes a file, asks its questions, and looks whether its bytes are still what they were. */
@@ -68,14 +94,14 @@ static void ask_of_file(uint32_t number)
     make_file(&file, number);
     tally_file(&file);
     lend_file(&file);
-    uint32_t questions = file.damage == WHOLE ? QUESTIONS_OF_WHOLE : QUESTIONS_OF_DAMAGED;
-    for (uint32_t k = 0; k < questions && asked < count; k++)
+    for (uint32_t k = questions_of_file(); k > 0 && asked < count; k--)
         ask();
     if (!same_bytes(&file)) {
         print_where("a byte of the file has changed, at this question or one before it");
         exit(1);
     }
     take_back_file(&file);
+    take_back_copy();
 }
 
 /* The number that an argument says; ends the run where it says none. */

@@ -25,7 +25,7 @@ uint32_t draw_part(void)
 }
 
 /* A point of a rectangle, often in its last column or row. */
-static struct janlishuk_point in_rectangle(uint32_t base, uint32_t zone, uint32_t rectangle)
+struct janlishuk_point in_rectangle(uint32_t base, uint32_t zone, uint32_t rectangle)
 {
     uint32_t wx = chance(15) ? 14 : below(15);
     uint32_t wy = chance(15) ? 30 : below(31);
@@ -36,14 +36,22 @@ static struct janlishuk_point in_rectangle(uint32_t base, uint32_t zone, uint32_
  * row, where the next rectangle begins. */
 static struct janlishuk_point near_missing(const struct file *file, uint32_t base, uint32_t zone)
 {
-    struct spot spot = file->missing[below(file->missing_count)];
-    uint32_t column = (spot.word - 1) % 16;
-    uint32_t row = (spot.word - 1) / 16;
+    struct missing missing = file->missing[below(file->missing_count)];
+    uint32_t column = (missing.word - 1) % 16;
+    uint32_t row = (missing.word - 1) / 16;
     uint32_t wx = column == 15 ? 14 : column == 0 ? 0 : column - below(2);
     uint32_t wy = row == 31 ? 30 : row == 0 ? 0 : row - below(2);
     uint32_t east = column == 15 && chance(50) ? 7500 : 500 * wx + draw_part();
     uint32_t north = row == 31 && chance(50) ? 15500 : 500 * wy + draw_part();
-    return point_at(base, zone, spot.rectangle, east, north);
+    return point_at(base, zone, missing.rectangle, east, north);
+}
+
+/* A point that may be read though entries elsewhere are broken: in a remembered corner, or on covered ground, if there is any. */
+static struct janlishuk_point draw_spared_point(const struct file *file, uint32_t base, uint32_t zone)
+{
+    if (file->corner_count > 0 && chance(70))
+        return point_at(base, zone, file->corners[below(file->corner_count)], 0, 0);
+    return in_rectangle(base, zone, file->covered_count > 0 ? file->covered[below(file->covered_count)] : 1);
 }
 
 /* A point on or beside a bound of the ground. */
@@ -67,7 +75,7 @@ uint32_t other_zone(uint32_t zone)
 }
 
 /* A point for a question: mostly on covered ground or on a seam, else where a height is missing, at a bound, in rectangle 0, anywhere, or
- * of another zone. */
+ * of another zone; often at a broken position, where the file has such. */
 struct janlishuk_point draw_point(const struct file *file, uint32_t base, uint32_t zone)
 {
     uint32_t kind = below(100);
@@ -76,6 +84,10 @@ struct janlishuk_point draw_point(const struct file *file, uint32_t base, uint32
     struct janlishuk_point point = in_rectangle(base, zone, below(all));
     if (kind < 20 && file->missing_count > 0)
         point = near_missing(file, base, zone);
+    else if (file->broken_count > 0 && chance(45))
+        point = draw_broken_point(file, base, zone);
+    else if (spots_may_differ(file) && chance(file->broken_count > 0 ? 60 : 85))
+        point = draw_spared_point(file, base, zone);
     else if (kind < 20 + seams)
         point = draw_seam_point(file, base, zone);
     else if (kind < 70 && file->covered_count > 0)
@@ -183,20 +195,23 @@ static uint32_t draw_sample(const struct question *q, uint32_t base)
     uint32_t n = 200;
     if (rules_on_ground(base, q->first) && rules_on_ground(base, q->second))
         n = (uint32_t)rules_steps(rules_square(q->first, q->second));
-    if (kind < 10)
+    if (kind < 15)
         return 0;
-    if (kind < 25)
-        return n;
     if (kind < 30)
+        return n;
+    if (kind < 35)
         return n + 1;
     return kind < 95 ? below(n + 1) : far_number();
 }
 
-/* Which call a question is of; more of those that are given a path. */
-static enum call draw_call(void)
+/* Which call a question is of; more of those that are given a path, and of a damaged file more spots, most where the index is damaged. */
+static enum call draw_call(const struct file *file)
 {
-    static const uint32_t shares[CALLS] = {4, 3, 4, 13, 8, 9, 14, 18, 15, 12};
+    static const uint32_t shares[CALLS] = {5, 2, 3, 11, 11, 7, 8, 12, 16, 13, 12};
+    static const uint32_t more_spots[4] = {[1] = 20, [3] = 65};
     uint32_t kind = below(100);
+    if (chance(more_spots[damage_refusal(file->damage)]))
+        return SPOT;
     enum call call = CHECK;
     while (kind >= shares[call])
         kind -= shares[call++];
@@ -206,7 +221,7 @@ static enum call draw_call(void)
 /* A question of a file, mostly opened with what it was made for. */
 struct question draw_question(const struct file *file)
 {
-    struct question q = {.call = draw_call(), .base = file->base, .zone = file->zone};
+    struct question q = {.call = draw_call(file), .base = file->base, .zone = file->zone};
     bool other = q.call == NAME || chance(4);
     if (other && chance(70))
         q.base = draw_base(file->base);
@@ -217,7 +232,7 @@ struct question draw_question(const struct file *file)
     struct path path = {0};
     if (q.call == BASE)
         q.first.northing = draw_northing();
-    if (q.call == READ || q.call == ENGINE_POINT)
+    if (q.call == READ || q.call == SPOT || q.call == ENGINE_POINT)
         q.first = draw_point(file, base, q.zone);
     if (q.call == UPLOAD)
         q.survey = draw_survey(file, base);

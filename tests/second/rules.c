@@ -1,5 +1,5 @@
-/* The rules of document 01, and of requests a) and b) of document 02, sentence by sentence. All arithmetic is in 64 bits, in which nothing
- * here can overflow: what a caller passes is multiplied only after it was found on the ground or within its limit. */
+/* The rules of document 01, and of requests a), b) and c) of document 02, sentence by sentence. All arithmetic is in 64 bits, in which
+ * nothing here can overflow: what a caller passes is multiplied only after it was found on the ground or within its limit. */
 #include "rules.h"
 
 /* The southern boundary yB(b) in 500 m units, by the formula: 31 x (7b + (1000 + (246 + b) x b) / 2000), division truncated. */
@@ -35,21 +35,24 @@ static bool length_holds(uint64_t length)
 }
 
 /* Whether M, in position 3072, is 6 to the record count. */
-static bool highest_holds(struct rules_file file)
+bool rules_highest_holds(struct rules_file file)
 {
     uint64_t highest = rules_position(file.bytes, 3072);
     return highest >= 6 && highest <= file.length / 1024;
 }
 
+/* Whether an entry is 0 or 7 to M. */
+bool rules_entry_holds(struct rules_file file, uint64_t entry)
+{
+    return entry == 0 || (entry >= 7 && entry <= rules_position(file.bytes, 3072));
+}
+
 /* Whether positions 1 to 100 x rows - 1 each hold 0 or 7 to M. */
 static bool entries_hold(struct rules_file file)
 {
-    uint64_t highest = rules_position(file.bytes, 3072);
-    for (uint64_t n = 1; n <= 100 * rules_rows(file.base) - 1; n++) {
-        uint64_t entry = rules_position(file.bytes, n);
-        if (entry != 0 && (entry < 7 || entry > highest))
+    for (uint64_t n = 1; n <= 100 * rules_rows(file.base) - 1; n++)
+        if (!rules_entry_holds(file, rules_position(file.bytes, n)))
             return false;
-    }
     return true;
 }
 
@@ -75,16 +78,23 @@ static bool rest_is_zero(struct rules_file file)
     return true;
 }
 
-/* The first of the refusals 1, 2, 3 that holds of a file, else 0. */
-static uint32_t file_refusal(struct rules_file file)
+/* The first of the refusals 1, 2, and 3 for M outside its range that holds of a file, else 0. No entry is looked at. */
+static uint32_t opening_refusal(struct rules_file file)
 {
     if (!length_holds(file.length))
         return 1;
     if (!opened_rightly(file.base, file.zone))
         return 2;
-    if (!highest_holds(file) || !entries_hold(file) || !entries_differ(file) || !rest_is_zero(file))
-        return 3;
-    return 0;
+    return rules_highest_holds(file) ? 0 : 3;
+}
+
+/* The first of the refusals 1, 2, 3 that holds of a file, else 0. */
+static uint32_t file_refusal(struct rules_file file)
+{
+    uint32_t refusal = opening_refusal(file);
+    if (refusal == 0 && !(entries_hold(file) && entries_differ(file) && rest_is_zero(file)))
+        refusal = 3;
+    return refusal;
 }
 
 /* A check that passes answers M; else refusal 1, 2 or 3. */
@@ -213,6 +223,14 @@ enum rules_from rules_taken(struct rules_file file, struct janlishuk_point point
     return RULES_NONE;
 }
 
+/* The first of the entries of a point on the ground that isn't 0, tried in the order own, west, south, south-west of the rectangles that it
+ * may be read from; 0 where there is none. No entry after it is looked at. */
+uint64_t rules_entry_met(struct rules_file file, struct janlishuk_point point)
+{
+    enum rules_from taken = rules_taken(file, point);
+    return taken == RULES_NONE ? 0 : rules_record(file, rules_seat(rules_place(file.base, point), taken).rectangle);
+}
+
 /* Word w of a record, records and words numbered from 1: 8192 x surface code + elevation, high byte first. */
 static uint64_t word_of(struct rules_file file, uint64_t record, uint64_t w)
 {
@@ -272,11 +290,17 @@ struct janlishuk_read_answer rules_read_from(struct rules_file file, struct janl
     return answer;
 }
 
-/* The reading of a point in a file that passes, from the rectangle taken: the exact height and the surface code, or the first of the
+/* Whether the point's zone differs, or the point is not on the ground. */
+static bool is_elsewhere(struct rules_file file, struct janlishuk_point point)
+{
+    return point.zone != file.zone || !rules_on_ground(file.base, point);
+}
+
+/* The reading of a point from the rectangle taken, whose entry is 7 to M: the exact height and the surface code, or the first of the
  * refusals 4, 5, 6 that holds. */
 static struct janlishuk_read_answer reading(struct rules_file file, struct janlishuk_point point)
 {
-    if (point.zone != file.zone || !rules_on_ground(file.base, point))
+    if (is_elsewhere(file, point))
         return (struct janlishuk_read_answer){.refusal = 4};
     enum rules_from taken = rules_taken(file, point);
     if (taken == RULES_NONE)
@@ -288,6 +312,20 @@ static struct janlishuk_read_answer reading(struct rules_file file, struct janli
 struct janlishuk_read_answer rules_read(struct rules_file file, struct janlishuk_point point)
 {
     uint32_t refusal = file_refusal(file);
+    if (refusal != 0)
+        return (struct janlishuk_read_answer){.refusal = refusal};
+    return reading(file, point);
+}
+
+/* A reading that looks at the length, base, zone, M, and this point's entries up to the first that isn't 0, and at no others. Refusals: 1,
+ * 2, 3 for M outside its range, 4, then 3 for the first entry looked at that is neither 0 nor 7 to M, then 5 and 6. */
+struct janlishuk_read_answer rules_spot(struct rules_file file, struct janlishuk_point point)
+{
+    uint32_t refusal = opening_refusal(file);
+    if (refusal == 0 && is_elsewhere(file, point))
+        refusal = 4;
+    if (refusal == 0 && !rules_entry_holds(file, rules_entry_met(file, point)))
+        refusal = 3;
     if (refusal != 0)
         return (struct janlishuk_read_answer){.refusal = refusal};
     return reading(file, point);
@@ -370,9 +408,9 @@ static uint32_t path_refusal(struct rules_file file, struct janlishuk_point firs
     uint32_t refusal = file_refusal(file);
     if (refusal != 0)
         return refusal;
-    if (first.zone != file.zone || !rules_on_ground(file.base, first))
+    if (is_elsewhere(file, first))
         return 4;
-    if (second.zone != file.zone || !rules_on_ground(file.base, second))
+    if (is_elsewhere(file, second))
         return 4;
     uint64_t q = rules_square(first, second);
     if (q == 0 || q > 10000000000)

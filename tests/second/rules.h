@@ -1,5 +1,6 @@
-/* The rules of document 01, and of requests a) and b) of document 02, a second time, in plain C and from the documents alone. The answers
- * have the types of janlishuk.h, so that they can be compared field by field with the library's; nothing else of the library is used. */
+/* The rules of document 01, and of requests a), b) and c) of document 02, a second time, in plain C and from the documents alone. The
+ * answers have the types of janlishuk.h, so that they can be compared field by field with the library's; nothing else of the library is
+ * used. */
 #ifndef RULES_H
 #define RULES_H
 
@@ -71,6 +72,7 @@ struct janlishuk_check_answer rules_check(struct rules_file file);
 struct janlishuk_name_answer rules_name(uint64_t base, uint64_t zone);
 struct janlishuk_base_answer rules_base(uint64_t northing);
 struct janlishuk_read_answer rules_read(struct rules_file file, struct janlishuk_point point);
+struct janlishuk_read_answer rules_spot(struct rules_file file, struct janlishuk_point point);
 struct janlishuk_upload_answer rules_upload(struct rules_file file, struct rules_lists lists);
 struct janlishuk_engine_point_answer rules_engine_point(struct rules_file file, struct janlishuk_point point);
 struct janlishuk_profile_answer rules_profile(struct rules_file file, struct janlishuk_point first, struct janlishuk_point second);
@@ -88,11 +90,14 @@ bool rules_on_ground(uint64_t base, struct janlishuk_point point);
 uint64_t rules_rectangle(uint64_t base, struct janlishuk_point point);
 uint64_t rules_word(uint64_t base, struct janlishuk_point point);
 uint64_t rules_position(const uint8_t *bytes, uint64_t n);
+bool rules_highest_holds(struct rules_file file);
+bool rules_entry_holds(struct rules_file file, uint64_t entry);
 uint64_t rules_record(struct rules_file file, uint64_t rectangle);
 struct rules_place rules_place(uint64_t base, struct janlishuk_point point);
 bool rules_allowed(struct rules_place place, enum rules_from from);
 struct rules_seat rules_seat(struct rules_place place, enum rules_from from);
 enum rules_from rules_taken(struct rules_file file, struct janlishuk_point point);
+uint64_t rules_entry_met(struct rules_file file, struct janlishuk_point point);
 void rules_corners(struct rules_file file, struct janlishuk_point point, enum rules_from from, struct rules_corner corners[4]);
 struct janlishuk_read_answer rules_read_from(struct rules_file file, struct janlishuk_point point, enum rules_from from);
 bool rules_lists_fit(struct rules_lists lists);

@@ -1,17 +1,18 @@
 /* Drawing points and paths on seams, where rectangles meet, and beside them. */
 #include "second.h"
 
+const uint32_t steps_back[RULES_NONE] = {0, 1, 100, 101};
+
 /* The rectangle that a point on a seam lies in: mostly one at a remembered corner, else one to the east, the north or the north-east of
  * rectangle 0, of a covered one or of the home. */
 static uint32_t draw_own(const struct file *file)
 {
-    static const uint32_t steps[3] = {1, 100, 101};
     uint32_t kind = below(100);
-    uint32_t step = steps[below(3)];
+    uint32_t step = steps_back[between(RULES_WEST, RULES_SOUTH_WEST)];
     struct box home = file->home;
-    if (kind < 8)
+    if (kind < 14)
         return step;
-    if (kind < 85 && file->corner_count > 0)
+    if (kind < 88 && file->corner_count > 0)
         return file->corners[below(file->corner_count)];
     if (kind < 50 && file->covered_count > 0)
         return file->covered[below(file->covered_count)] + step;
@@ -29,16 +30,37 @@ static uint32_t draw_along(uint32_t units)
 
 /* A point on the western or the southern edge of a rectangle or in its corner, or in some cases a little beside it to the east or north, or
  * 1 m to the west or south. */
-struct janlishuk_point draw_seam_point(const struct file *file, uint32_t base, uint32_t zone)
+static struct janlishuk_point on_seam(uint32_t base, uint32_t zone, uint32_t own)
 {
     uint32_t kind = below(100);
-    uint32_t east = kind < 30 ? draw_along(15) : 0;
-    uint32_t north = kind >= 30 && kind < 60 ? draw_along(31) : 0;
-    struct janlishuk_point point = point_at(base, zone, draw_own(file), east, north);
+    uint32_t east = kind < 27 ? draw_along(15) : 0;
+    uint32_t north = kind >= 27 && kind < 54 ? draw_along(31) : 0;
+    struct janlishuk_point point = point_at(base, zone, own, east, north);
     uint32_t aside = chance(85) ? 0 : chance(50) ? 1 : draw_part();
     bool back = aside == 1 && chance(30);
     uint32_t *moved = chance(50) ? &point.easting : &point.northing;
     *moved = back ? *moved - aside : *moved + aside;
+    return point;
+}
+
+/* A point on a seam, or a little beside it, where the seams of the file's covered ground are. */
+struct janlishuk_point draw_seam_point(const struct file *file, uint32_t base, uint32_t zone)
+{
+    return on_seam(base, zone, draw_own(file));
+}
+
+/* A point for which a broken position is looked at, or nearly: in its rectangle or in the one to the east, the north or the north-east,
+ * mostly on a seam of that or a little beside it; in some cases in the rectangle before, or of another zone. The file has a broken
+ * position. */
+struct janlishuk_point draw_broken_point(const struct file *file, uint32_t base, uint32_t zone)
+{
+    uint32_t broken = file->broken[below(file->broken_count)];
+    uint32_t own = chance(8) ? broken - 1 : broken + steps_back[below(RULES_NONE)];
+    struct janlishuk_point point = chance(80) ? on_seam(base, zone, own) : in_rectangle(base, zone, own);
+    uint32_t *moved = chance(50) ? &point.easting : &point.northing;
+    *moved += chance(25) ? between(1, 499) : 0;
+    if (chance(6))
+        point.zone = other_zone(zone);
     return point;
 }
 

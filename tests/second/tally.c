@@ -10,14 +10,13 @@
 
 #define KIND_TEXT(name, text) text,
 static const char *const kind_texts[KIND_COUNT] = {KINDS(KIND_TEXT)};
-#define DAMAGE_REFUSAL(name, text, refusal) refusal,
-static const int damage_refusals[DAMAGE_KINDS] = {DAMAGES(DAMAGE_REFUSAL)};
 
 /* The refusals that each call can give, by documents 01 and 02, a bit for each; 0 is an answer. */
 #define UP_TO(refusal) (ONLY((refusal) + 1) - 1)
 static const uint32_t possible[CALLS] = {
-    [CHECK] = UP_TO(3), [NAME] = ONLY(0) | ONLY(2), [BASE] = ONLY(0) | ONLY(4), [READ] = UP_TO(6), [UPLOAD] = UP_TO(3) | ONLY(10),
-    [ENGINE_POINT] = UP_TO(6), [PROFILE] = UP_TO(7), [VERDICT] = UP_TO(8), [PLAN] = UP_TO(9), [ENGINE_ROW] = UP_TO(8),
+    [CHECK] = UP_TO(3), [NAME] = ONLY(0) | ONLY(2), [BASE] = ONLY(0) | ONLY(4), [READ] = UP_TO(6), [SPOT] = UP_TO(6),
+    [UPLOAD] = UP_TO(3) | ONLY(10), [ENGINE_POINT] = UP_TO(6), [PROFILE] = UP_TO(7), [VERDICT] = UP_TO(8), [PLAN] = UP_TO(9),
+    [ENGINE_ROW] = UP_TO(8),
 };
 
 static uint64_t refusals[CALLS][REFUSALS];
@@ -56,25 +55,32 @@ static void tally_check(const struct file *file, const struct question *q, uint3
     count_if(file->length == 4096 * 1024, LARGEST);
 }
 
+/* Whether a corner that does not weigh in has no height. */
+bool weightless_missing(const struct rules_corner corners[4])
+{
+    bool any = false;
+    for (int k = 0; k < 4; k++)
+        any = any || (corners[k].weight == 0 && corners[k].elevation == RULES_NO_HEIGHT);
+    return any;
+}
+
 /* Counts what kind of reading was given. */
 static void tally_reading(const struct file *file, const struct question *q, uint32_t code)
 {
     struct rules_corner corners[4];
     uint64_t sums[CODES] = {0};
-    bool weightless = false;
     bool tie = false;
     bool top = true;
     struct rules_file asked = opened(file, q->base, q->zone);
     rules_corners(asked, q->first, rules_taken(asked, q->first), corners);
     for (int k = 0; k < 4; k++) {
         sums[corners[k].code] += corners[k].weight;
-        weightless = weightless || (corners[k].weight == 0 && corners[k].elevation == RULES_NO_HEIGHT);
         top = top && (corners[k].weight == 0 || corners[k].elevation == RULES_NO_HEIGHT - 1);
     }
     for (uint32_t other = 0; other < CODES; other++)
         tie = tie || (other != code && sums[other] == sums[code]);
     uint64_t word = rules_word(q->base, q->first);
-    count_if(weightless, WEIGHTLESS);
+    count_if(weightless_missing(corners), WEIGHTLESS);
     count_if(tie, TIE);
     count_if(top, TOP);
     count_if((word - 1) % 16 == 14, LAST_COLUMN);
@@ -294,11 +300,13 @@ void tally_answer(const struct file *file, const struct question *q, const union
 {
     uint32_t refusal = answer->check.refusal;
     refusals[q->call][refusal]++;
-    if (q->call != NAME && q->call != BASE)
+    if (q->call != NAME && q->call != BASE && q->call != SPOT)
         damaged[file->damage][refusal]++;
     if (q->call == BASE && refusal == 0)
         bases_found[answer->base.base / 4]++;
     if (q->call == NAME || q->call == BASE)
+        return;
+    if (q->call == SPOT && !tally_spot(file, q, refusal))
         return;
     if (refusal != 0 && q->call == UPLOAD) {
         tally_refused_upload(&q->survey, refusal);
@@ -310,7 +318,8 @@ void tally_answer(const struct file *file, const struct question *q, const union
     }
     switch (q->call) {
     case CHECK: tally_check(file, q, answer->check.highest); break;
-    case READ: tally_reading(file, q, answer->read.code); break;
+    case READ:
+    case SPOT: tally_reading(file, q, answer->read.code); break;
     case UPLOAD: tally_upload(file, q); break;
     case ENGINE_POINT:
         count_if(answer->engine_point.kind == JANLISHUK_LAND, LAND);
@@ -340,13 +349,15 @@ void print_tally(void)
     for (int kind = 0; kind < KIND_COUNT; kind++)
         printf("%-46s %6" PRIu64 "\n", kind_texts[kind], kinds[kind]);
     print_seams();
+    print_spots();
     printf("\nreadings given by surface code 0 to 7, readings given by base 0 to 80, bases found 0 to 80\n");
     print_counts("codes", codes, CODES);
     print_counts("read, 0 to 40", bases_read, 11);
     print_counts("read, 44 to 80", bases_read + 11, 10);
     print_counts("found, to 40", bases_found, 11);
     print_counts("found, to 80", bases_found + 11, 10);
-    printf("\n%-34s %6s %8s %8s %8s %8s\n", "damage", "files", "ref. 1", "ref. 2", "ref. 3", "other");
+    printf("\nanswers but those of names, bases and spots\n");
+    printf("%-34s %6s %8s %8s %8s %8s\n", "damage", "files", "ref. 1", "ref. 2", "ref. 3", "other");
     for (int kind = 0; kind < DAMAGE_KINDS; kind++) {
         const uint64_t *of = damaged[kind];
         uint64_t other = of[0];
@@ -380,13 +391,14 @@ bool tally_lacks(void)
     for (int kind = 0; kind < KIND_COUNT; kind++)
         any |= lacks(kinds[kind], "kind of answer,", kind_texts[kind], -1);
     any |= seams_lack();
+    any |= spots_lack();
     for (int code = 0; code < CODES; code++)
         any |= lacks(codes[code], "reading of", "code", code);
     for (int base = 0; base < BASES; base++) {
         any |= lacks(bases_read[base], "reading with", "base", 4 * base);
         any |= lacks(bases_found[base], "finding of", "base", 4 * base);
     }
-    for (int kind = 0; kind < DAMAGE_KINDS; kind++)
-        any |= lacks(damaged[kind][damage_refusals[kind]], damage_name((enum damage)kind), "with refusal", damage_refusals[kind]);
+    for (enum damage kind = 0; kind < DAMAGE_KINDS; kind++)
+        any |= lacks(damaged[kind][damage_refusal(kind)], damage_name(kind), "with refusal", (int)damage_refusal(kind));
     return any;
 }

@@ -80,6 +80,44 @@
     K(BESIDE_MISSING, "refusal 6 from one beside, next has heights") \
     K(EASTERN_BOUND, "refusal 4 just east of covered ground") \
     K(NORTHERN_BOUND, "refusal 4 just north of covered ground") \
+    K(SPOT_LENGTH_OPENED, "spot: refusal 1 where 2 would hold") \
+    K(SPOT_LENGTH_FIRST, "spot: refusal 1 where M is bad") \
+    K(SPOT_OPENED_FIRST, "spot: refusal 2 where M is bad") \
+    K(SPOT_M_LOW, "spot: refusal 3 for M below 6") \
+    K(SPOT_M_5, "spot: refusal 3 for M = 5") \
+    K(SPOT_M_HIGH, "spot: refusal 3 for M above the record count") \
+    K(SPOT_M_ONE_ABOVE, "spot: refusal 3 for M one above the count") \
+    K(SPOT_M_GROUND, "spot: refusal 3 for M, not on the ground") \
+    K(SPOT_M_ZONE, "spot: refusal 3 for M, of another zone") \
+    K(SPOT_M_BARE, "spot: refusal 3 for M below 6, entries 0") \
+    K(SPOT_M_RECORD, "spot: refusal 3 for M, entry has a record") \
+    K(SPOT_M_BEYOND, "spot: refusal 3 for M, entry beyond the file") \
+    K(SPOT_ZONE_FIRST, "spot: refusal 4 for the zone, entry bad") \
+    K(SPOT_ENTRY_1, "spot: refusal 3 for an entry of 1") \
+    K(SPOT_ENTRY_6, "spot: refusal 3 for an entry of 6") \
+    K(SPOT_ENTRY_ONE_ABOVE, "spot: refusal 3 for an entry of M + 1") \
+    K(SPOT_ENTRY_IN_FILE, "spot: refusal 3, entry above M has a record") \
+    K(SPOT_ENTRY_BEYOND, "spot: refusal 3, entry above the record count") \
+    K(SPOT_ENTRY_MISSING, "spot: refusal 3, entry's record lacks a height") \
+    K(SPOT_ENTRY_ALONE, "spot: refusal 3, entries beside the bad one 0") \
+    K(SPOT_OWN_WEST, "spot: refusal 3 for own, west has a record") \
+    K(SPOT_OWN_SOUTH, "spot: refusal 3 for own, south has a record") \
+    K(SPOT_BESIDE_NEXT, "spot: refusal 3 for one beside, next has one") \
+    K(SPOT_M_6, "spot: refusal 5 with M = 6") \
+    K(SPOT_EAST_OF_SEAM, "spot: refusal 5, wx = 0 and fx > 0, west bad") \
+    K(SPOT_NORTH_OF_SEAM, "spot: refusal 5, wy = 0 and fy > 0, south bad") \
+    K(SPOT_COLUMN_0, "spot: refusal 5 in column 0, n - 1 bad") \
+    K(SPOT_RECTANGLE_0, "spot: refusal 5 in rectangle 0, position 1 bad") \
+    K(SPOT_READ_7, "spot: read, entry 7") \
+    K(SPOT_READ_M, "spot: read, entry M") \
+    K(SPOT_READ_COUNT, "spot: read, M is the record count") \
+    K(SPOT_OFF_SEAM, "spot: read, one beside bad, not on its seam") \
+    K(SPOT_WEIGHTLESS, "spot: read, weightless corner, no height") \
+    K(SPOT_SHARED, "spot: read, record of another rectangle too") \
+    K(SPOT_ONLY_LOW, "spot: read, only fault an entry below 7") \
+    K(SPOT_ONLY_HIGH, "spot: read, only fault an entry above M") \
+    K(SPOT_ONLY_TWICE, "spot: read, only fault another entry twice") \
+    K(SPOT_ONLY_STRAY, "spot: read, only fault in 100 x rows to 3071") \
     K(UPLOAD_NONE, "upload given: 0 points") \
     K(UPLOAD_ONE, "upload given: 1 point") \
     K(UPLOAD_255, "upload given: 255 points") \
@@ -125,14 +163,21 @@ enum kind { KINDS(KIND_ENUM) KIND_COUNT };
 
 /* tally.c */
 void count_if(bool holds, enum kind kind);
+bool weightless_missing(const struct rules_corner corners[4]);
 void print_counts(const char *name, const uint64_t *counts, int count);
 bool lacks(uint64_t count, const char *what, const char *which, int number);
 
 /* tally_seams.c */
+const char *from_name(enum rules_from from);
 uint32_t tally_point(struct rules_file file, struct janlishuk_point point, uint32_t refusal);
 uint32_t tally_samples(struct rules_file file, const struct question *question, uint64_t n);
 void tally_taken(enum call call, uint32_t taken);
 void print_seams(void);
 bool seams_lack(void);
+
+/* tally_spots.c */
+bool tally_spot(const struct file *file, const struct question *question, uint32_t refusal);
+void print_spots(void);
+bool spots_lack(void);
 
 #endif

@@ -10,7 +10,6 @@
 #define CHOICES 16
 
 static const char *const seam_names[SEAMS] = {"western edge", "southern edge", "corner"};
-static const char *const from_names[RULES_NONE] = {"from own", "from west", "from south", "from south-west"};
 
 static uint64_t readings[RULES_NONE];
 static uint64_t answers[CALLS][RULES_NONE];
@@ -25,6 +24,13 @@ struct seen {
     uint32_t covered;
     uint32_t readable;
 };
+
+/* What a reading from one of the four rectangles is called. */
+const char *from_name(enum rules_from from)
+{
+    static const char *const names[RULES_NONE] = {"from own", "from west", "from south", "from south-west"};
+    return names[from];
+}
 
 /* What is seen of a point on the ground. */
 static struct seen look_at(struct rules_file file, struct janlishuk_point point)
@@ -208,9 +214,9 @@ bool seams_lack(void)
 {
     bool any = false;
     for (enum rules_from from = RULES_OWN; from < RULES_NONE; from++) {
-        any |= lacks(readings[from], "reading", from_names[from], -1);
+        any |= lacks(readings[from], "reading", from_name(from), -1);
         for (enum call call = READ; call < CALLS; call++)
-            any |= lacks(answers[call][from], call_name(call), from_names[from], -1);
+            any |= lacks(answers[call][from], call_name(call), from_name(from), -1);
     }
     for (int seam = 0; seam < SEAMS; seam++)
         for (int choice = 0; choice < CHOICES; choice++)

@@ -8,6 +8,7 @@ mod names;
 mod points;
 mod say;
 mod seams;
+mod spots;
 mod surveys;
 
 // Prints the answers to all questions.
@@ -17,6 +18,7 @@ fn main() {
     damage::checks(file);
     points::points(&file);
     seams::seams(file);
+    spots::spots(file);
     surveys::surveys(&file);
     links::paths(&file);
 }

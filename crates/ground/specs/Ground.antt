@@ -1,11 +1,11 @@
 -- The ground of a file that is opened with a base latitude and a zone, and the points that it holds. Document 01, "Ground of a file".
 -- Assumes nothing.
-use Prim.Native.Nat.{ℕ, _+_}
+use Prim.Native.Nat.{ℕ, _+_, _-_, _/_}
 use mathlib.Core.Bool.{Bool, not, _&&_}
 use lib.Dec.{leb, eqb}
 use Rattle.ground.specs.Outcome.{Outcome, given, refused, unless}
 use Rattle.ground.specs.Measure.{inUnits}
-use Rattle.ground.specs.Boundary.{yB, rows, named, between}
+use Rattle.ground.specs.Boundary.{yB, named, between}
 use Rattle.ground.specs.declared.point.Point.{Point}
 use Rattle.ground.specs.declared.Ground.{Ground}
 use Rattle.ground.specs.declared.Opened.{Opened}
@@ -13,7 +13,11 @@ use Rattle.ground.specs.declared.Opened.the-variants.{On, Refused}
 
 -- the ground of base b and zone z: from yB(b) to before yB(b+4)
 abbrev pub groundOf : ℕ → ℕ → Ground
-groundOf b z = record { zone = z; south = yB b; north = yB (b + 4); rows = rows b }
+groundOf b z = record { zone = z; south = yB b; north = yB (b + 4) }
+
+-- rows of rectangles on a ground; on that of base b they are `rows b`
+abbrev pub rowsOf : Ground → ℕ
+rowsOf g = (g .north .0 - g .south .0) / 31
 
 -- a file is opened with a base and a zone that are named, else refusal 2
 abbrev pub opened : ℕ → ℕ → Outcome Ground

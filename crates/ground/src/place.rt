@@ -58,10 +58,11 @@ impl Place {
         requires { ⌜ (fx .0 < 500) × (fy .0 < 500) ⌝ }
         ensures { λ r. ⌜ r ≡ placeAt east north fx fy ⌝ }
     {
+        let rectangle = Rectangle::at(east, north);
         Place {
-            rectangle: Rectangle::at(east, north),
-            wx: Units(east.0 % Rectangle::EAST),
-            wy: Units(north.0 % Rectangle::NORTH),
+            rectangle,
+            wx: Units(east.0 - Rectangle::EAST * rectangle.ix),
+            wy: Units(north.0 - Rectangle::NORTH * rectangle.iy),
             fx,
             fy,
             weights: Weights::at(fx, fy),

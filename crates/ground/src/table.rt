@@ -1,7 +1,8 @@
 // The southern boundaries of the files, and the bases and zones that a file is opened with.
 ghost use mathlib.Core.Path.{_≡_};
 ghost use Prim.Native.Nat.{_*_, _<_};
-ghost use Rattle.ground.specs.Boundary.{span, isBase, isZone, named, baseAt, baseOf, baseAnswer};
+ghost use lib.ListN.{getD};
+ghost use Rattle.ground.specs.Boundary.{table1, span, isBase, isZone, named, baseAt, baseOf, baseAnswer};
 use crate::measure::Metres;
 use crate::measure::Units;
 
@@ -72,15 +73,46 @@ pub fn are_named(base: u32, zone: u32) -> bool
     is_base(base) & is_zone(zone)
 }
 
-// The boundaries of the k-th file from the equator: yB(b) and yB(b+4) of base b = 4k.
+// Entry k of the table, counted from 0: yB(b) of base b = 4k. With an arm for each entry the compiled
+// table lies in memory that is only read; an index would have it copied to the stack at each call.
+fn southern(k: usize) -> u32
+    requires { ⌜ k < 22 ⌝ }
+    ensures { λ r. ⌜ r ≡ getD table1 k 0 ⌝ }
+{
+    match k {
+        0 => SOUTHERN[0],
+        1 => SOUTHERN[1],
+        2 => SOUTHERN[2],
+        3 => SOUTHERN[3],
+        4 => SOUTHERN[4],
+        5 => SOUTHERN[5],
+        6 => SOUTHERN[6],
+        7 => SOUTHERN[7],
+        8 => SOUTHERN[8],
+        9 => SOUTHERN[9],
+        10 => SOUTHERN[10],
+        11 => SOUTHERN[11],
+        12 => SOUTHERN[12],
+        13 => SOUTHERN[13],
+        14 => SOUTHERN[14],
+        15 => SOUTHERN[15],
+        16 => SOUTHERN[16],
+        17 => SOUTHERN[17],
+        18 => SOUTHERN[18],
+        19 => SOUTHERN[19],
+        20 => SOUTHERN[20],
+        _ => END,
+    }
+}
+
+// The boundaries of file k, counted from 0 at the equator: yB(b) and yB(b+4) of base b = 4k.
 pub(crate) fn boundaries(k: usize) -> Span
     requires { ⌜ k < 21 ⌝ }
     ensures { λ r. ⌜ r ≡ span (4 * k) ⌝ }
 {
-    let table = SOUTHERN;
     Span {
-        south: Units(table[k]),
-        north: Units(table[k + 1]),
+        south: Units(southern(k)),
+        north: Units(southern(k + 1)),
     }
 }
 

@@ -21,6 +21,15 @@ highest file = position file 3072
 unfoldable pub highestPasses : List ℕ → Bool
 highestPasses file = leb 6 (highest file) && leb (highest file) (records file)
 
+-- M is in its range, in document 01's own words: 6 to the record count
+pub record HighestIn (file : List ℕ) : Type 0 where
+  pub least : 6 ≤ highest file
+  pub most : highest file ≤ records file
+
+-- a number from 7 to M, that of a record past the index
+abbrev pub isRecord : ℕ → ℕ → Bool
+isRecord number M = leb 7 number && leb number M
+
 -- no position from 1 to before n holds the number r
 unfoldable pub fresh : List ℕ → ℕ → ℕ → Bool
 fresh file n r = every (λ m. not (eqb (position file m) r)) 1 n
@@ -29,7 +38,7 @@ fresh file n r = every (λ m. not (eqb (position file m) r)) 1 n
 unfoldable pub entryPasses : List ℕ → ℕ → ℕ → Bool
 entryPasses file M n =
     let r : ℕ = position file n in
-    eqb r 0 || ((leb 7 r && leb r M) && fresh file n r)
+    eqb r 0 || (isRecord r M && fresh file n r)
 
 -- each position from 1 to before the end holds 0, or a number from 7 to M that no position before it holds
 unfoldable pub entriesPass : List ℕ → ℕ → ℕ → Bool

@@ -4,9 +4,8 @@ use mathlib.Core.Path.{_≡_}
 use mathlib.Core.Bool.{Bool, true, false, not, _&&_}
 use mathlib.Core.List.{List}
 use Prim.Native.Nat.{ℕ, _+_, _*_, _≤_, _<_}
-use lib.Dec.{leb}
 use lib.ListN.{length, getD}
-use Rattle.index.specs.Index.{position, fresh, entriesPass}
+use Rattle.index.specs.Index.{position, isRecord, fresh, entriesPass}
 use Rattle.index.specs.declared.marks.Four.{Four}
 
 -- Positions from..r are all 0, and r <= end.
@@ -19,10 +18,6 @@ pub record Skipped (file : List ℕ) (from end r : ℕ) : Type 0 where
 pub record NextEntry (file : List ℕ) (from end r : ℕ) : Type 0 where
   pub skipped : Skipped file from end r
   pub holds : r < end → position file r ≡ 0 → ⊥
-
--- a number from 7 to M
-abbrev pub isRecord : ℕ → ℕ → Bool
-isRecord number M = leb 7 number && leb number M
 
 -- r tells whether the four are all numbers from 7 to M
 abbrev pub FourAre : Four → ℕ → Bool → Type 0

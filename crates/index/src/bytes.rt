@@ -1,8 +1,9 @@
 // The bytes of a file: its 16-bit numbers, how many records they make, and a record as a part of them.
 ghost use mathlib.Core.Path.{_≡_};
-ghost use Prim.Native.Nat.{_*_, _≤_};
+ghost use Prim.Native.Nat.{_+_, _*_, _≤_};
 ghost use lib.ListN.{length};
-ghost use Rattle.index.specs.Bytes.{nth, wholeRecords, recordStart, recordBytes, Part};
+ghost use Rattle.index.specs.Bytes.{nth, mostRecords, wholeRecords, recordStart, recordBytes, Part};
+ghost use Rattle.index.specs.Index.{isRecord};
 use ground::rectangle::Rectangle;
 
 // Bytes of a record: two for each word of a rectangle.
@@ -35,7 +36,16 @@ pub fn is_whole(file: &[u8]) -> bool
     (file.len() % RECORD == 0) & ((INDEX <= records) & (records <= MOST_RECORDS))
 }
 
-// Record r of the file, one past the index, as a part of it.
+// Whether the number is that of one of the first `past` records past the index, from 7 to 6 + past. One
+// comparison tells: below 7 the difference wraps to a number above every count of records.
+pub fn is_record(number: usize, past: usize) -> bool
+    requires { ⌜ past ≤ mostRecords ⌝ }
+    ensures { λ r. ⌜ r ≡ isRecord number (6 + past) ⌝ }
+{
+    std::num::wrapping_sub_usize(number, INDEX + 1) < past
+}
+
+// Record r of the file, any one past the index, as a part of it.
 pub fn cut(file: &[u8], r: usize) -> &[u8]
     requires { ⌜ (7 ≤ r) × (1024 * r ≤ length (now file)) ⌝ }
     ensures { λ p. ⌜ Part (file .entry) p (recordStart r) (recordBytes (now (file .entry)) r) ⌝ }

@@ -12,23 +12,22 @@ pub mod bytes;
 mod entries;
 mod marks;
 
-// Whether M is from 6 to the record count.
-fn highest_passes(file: &[u8], highest: usize) -> bool
-    requires { ⌜ highest ≡ nth (now file) 3072 ⌝ }
+// Whether M is from 6 to the record count. One comparison tells: below 6 the difference wraps to a number
+// above every count of records.
+pub fn highest_passes(file: &[u8], highest: u32) -> bool
+    requires { ⌜ (wholeRecords (now file) ≡ true) × (highest ≡ nth (now file) 3072) ⌝ }
     ensures { λ r. ⌜ r ≡ highestPasses (now (file .entry)) ⌝ }
 {
-    (INDEX <= highest) & (highest <= file.len() / RECORD)
+    let most = file.len() / RECORD - INDEX;
+    std::num::wrapping_sub_u32(highest, INDEX as u32) <= most as u32
 }
 
-// Whether M and the positions of a file of whole records, with this many rows of rectangles, keep the
-// rules.
+// Whether the index of a file of whole records, with this many rows of rectangles, keeps the rules. M
+// has passed its own test.
 pub fn passes(file: &[u8], highest: usize, rows: u32) -> bool
-    requires { ⌜ (wholeRecords (now file) ≡ true) × ((highest ≡ nth (now file) 3072) × ((1 ≤ rows) × (rows ≤ 30))) ⌝ }
+    requires { ⌜ (wholeRecords (now file) ≡ true) × ((highestPasses (now file) ≡ true) × ((highest ≡ nth (now file) 3072) × ((1 ≤ rows) × (rows ≤ 30)))) ⌝ }
     ensures { λ r. ⌜ r ≡ indexPasses (now (file .entry)) rows ⌝ }
 {
-    if !highest_passes(file, highest) {
-        return false;
-    }
     let end = Rectangle::IN_A_ROW * rows as usize;
     if !entries::all_pass(file, highest, end) {
         return false;

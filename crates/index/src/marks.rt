@@ -1,10 +1,10 @@
 // The marks of an index: one for each record number, set where the number was met.
-ghost use mathlib.Core.Path.{_≡_};
 ghost use Prim.Native.Nat.{_≤_};
 ghost use Rattle.index.specs.Bytes.{mostRecords};
-ghost use Rattle.index.specs.Inside.{isRecord, FourAre, Marking, RecordAt, FourRecords, NumberAt};
+ghost use Rattle.index.specs.Inside.{FourAre, Marking, RecordAt, FourRecords, NumberAt};
 use crate::bytes::INDEX;
 use crate::bytes::MOST_RECORDS;
+use crate::bytes::is_record;
 
 // A mark for each number from 0 to the most records that a file may have; those below 7 are never
 // set.
@@ -18,24 +18,16 @@ pub(crate) struct Four {
     pub fourth: usize,
 }
 
-// Whether the number is from 7 to M. One comparison tells: below 7 the difference wraps to a number
-// above every M.
-fn is_record(number: usize, highest: usize) -> bool
-    requires { ⌜ (6 ≤ highest) × (highest ≤ mostRecords) ⌝ }
-    ensures { λ r. ⌜ r ≡ isRecord number highest ⌝ }
-{
-    std::num::wrapping_sub_usize(number, INDEX + 1) < highest - INDEX
-}
-
 // Whether all four are from 7 to M.
 pub(crate) fn are_records(four: Four, highest: usize) -> bool
     requires { ⌜ (6 ≤ highest) × (highest ≤ mostRecords) ⌝ }
     ensures { λ r. ⌜ FourAre four highest r ⌝ }
 {
-    is_record(four.first, highest)
-        & is_record(four.second, highest)
-        & is_record(four.third, highest)
-        & is_record(four.fourth, highest)
+    let past = highest - INDEX;
+    is_record(four.first, past)
+        & is_record(four.second, past)
+        & is_record(four.third, past)
+        & is_record(four.fourth, past)
 }
 
 // Marks the number, and tells whether it had no mark.
@@ -70,7 +62,7 @@ pub(crate) fn mark_one(number: usize, highest: usize, marks: &mut [bool; MARKS])
     requires { ⌜ (6 ≤ highest) × (highest ≤ mostRecords) ⌝ }
     ensures { λ r. ⌜ Marking 1 (NumberAt number highest) (now (marks .entry)) (now (marks .exit)) r ⌝ }
 {
-    if is_record(number, highest) {
+    if is_record(number, highest - INDEX) {
         return mark(number, marks);
     }
     number == 0

@@ -11,7 +11,6 @@ use native.Mathlib.Omega.{arith}
 use lib.Dec.{eqb}
 use lib.ListN.{getD}
 use Rattle.ground.specs.Outcome.{Outcome, given, unless, _andThen_, refusalNumber}
-use Rattle.ground.specs.Boundary.{rows}
 use Rattle.ground.specs.Ground.{groundOf}
 use Rattle.ground.specs.Place.{weightsOf, placeAt, placeOf}
 use Rattle.ground.specs.declared.point.Point.{Point}
@@ -29,11 +28,11 @@ use Rattle.terrain.specs.Word.{wordOf}
 use Rattle.reading.specs.Corner.{corner, cornersAt, cornersOf, lacksHeight, anyLacksHeight}
 use Rattle.reading.specs.Reading.{readCorners, readTaken}
 use Rattle.reading.specs.Vote.{Greatest}
-use Rattle.reading.specs.Demand.{Mean}
+use Rattle.reading.specs.Demand.{SomeLacks, Mean}
 use Rattle.reading.specs.declared.point.Reading.{Reading}
 use Rattle.reading.specs.declared.point.ReadAnswer.{ReadAnswer}
 use Rattle.reading.proofs.Laws.Corner.{corner-lacks}
-use Rattle.reading.proofs.Laws.Reading.{at-place}
+use Rattle.reading.proofs.Laws.Reading.{some-lacks, at-place}
 use Rattle.reading.proofs.Laws.Vote.{greatest-by}
 use Rattle.janlishuk.specs.Order.{OnGround, placed}
 use Rattle.janlishuk.specs.Promise.{Checks, Reads}
@@ -107,12 +106,10 @@ module _ (file after : List ℕ) (b z : ℕ) (c : CheckAnswer) (checks : Checks 
     λ k. ⊎-elim (λ x. absurd (uncovered-means file b z p .1 k (x .0) (x .1))) (λ e. refusal-is ∙ rw e) (taken-or-5 file (placed b z p)),
   )
 
--- Such a point that is read from the record of rectangle 100 iy + ix, in this row and column:
-module _ (file after : List ℕ) (b z : ℕ) (c : CheckAnswer) (checks : Checks file after b z c) (passes : c .refusal ≡ 0)
-    (p : Point) (on : OnGround b z p) (r : ReadAnswer) (reads : Reads file after b z p r)
-    (iy ix row column : ℕ) (from : taken file (placed b z p) ≡ given (standing file b z p iy ix row column)) where
+-- A point in this row and column of the record of rectangle 100 iy + ix:
+module _ (file : List ℕ) (b z : ℕ) (p : Point) (iy ix row column : ℕ) where
   -- the sum over the four corners, each by its word and its weight
-  abbrev over : (add : (word weight : ℕ) → ℕ) → ℕ
+  abbrev pub over : (add : (word weight : ℕ) → ℕ) → ℕ
   over add =
       let word : ℕ → ℕ → ℕ = stored file (100 * iy + ix) in
       let f : ℕ = fx b z p in
@@ -122,14 +119,8 @@ module _ (file after : List ℕ) (b z : ℕ) (c : CheckAnswer) (checks : Checks 
       + add (word (row + 1) column) ((500 - f) * g)
       + add (word (row + 1) (column + 1)) (f * g)
 
-  module _ (is : r .refusal ≡ 0) where
-    -- demand 2, of the record that it is read from
-    is-mean : Mean file (rows b) (standing file b z p iy ix row column) (record { height = r .height; code = r .code })
-    is-mean =
-        let m = reading-is-mean file after b z c checks passes p on r reads is in
-        let i : m .source ≡ standing file b z p iy ix row column = cc (m .taken, from) in
-        rw i at (m .mean)
-
+  -- a reading that is the mean of that record
+  module _ (r : Reading) (mean : Mean file (standing file b z p iy ix row column) r) where
     -- the sum over the words that demand 2 speaks of is that over the bytes
     sums : (add : (word weight : ℕ) → ℕ) → ((word : ℕ) → add word 0 ≡ 0) → (
         let word = wordOf file (100 * iy + ix) in
@@ -141,11 +132,11 @@ module _ (file after : List ℕ) (b z : ℕ) (c : CheckAnswer) (checks : Checks 
         let word = stored file (100 * iy + ix) in
         let w = 16 * row + column + 1 in
         let k = placed b z p .weights in
-        let m = is-mean .corners in
+        let m = mean .corners in
         let old = wordOf file (100 * iy + ix) in
         let same : (j v : ℕ) → v ≡ j + 1 → v ≤ 512
         → old v ≡ 256 * getD file (1024 * (at file (100 * iy + ix) - 1) + 2 * j) 0 + getD file (1024 * (at file (100 * iy + ix) - 1) + 2 * j + 1) 0 =
-        λ j v e h. rw (← is-mean .named) (in-bytes file (at file (100 * iy + ix)) j v e h) in
+        λ j v e h. rw (← mean .named) (in-bytes file (at file (100 * iy + ix)) j v e h) in
         let sw = part add none (old w) (word row column) (k .sw) λ l. same (16 * row + column) w (omega arith) (m .sw l .1) in
         let se = part add none (old (w + 1)) (word row (column + 1)) (k .se) λ l. same (16 * row + (column + 1)) (w + 1) (omega arith) (m .se l .1) in
         let nw = part add none (old (w + 16)) (word (row + 1) column) (k .nw) λ l. same (16 * (row + 1) + column) (w + 16) (omega arith) (m .nw l .1) in
@@ -159,36 +150,69 @@ module _ (file after : List ℕ) (b z : ℕ) (c : CheckAnswer) (checks : Checks 
         + add (word (row + 1) (column + 1)) (q .ne)
 
     -- "The exact height is the sum of weight x elevation", elevation the word mod 8192
-    pub height-in-bytes : r .height ≡ over (λ word weight. weight * (word % 8192))
-    height-in-bytes = is-mean .height ∙ sums (λ word weight. weight * (word % 8192)) (λ word. zero-mul _)
+    pub mean-height : r .height ≡ over (λ word weight. weight * (word % 8192))
+    mean-height = mean .height ∙ sums (λ word weight. weight * (word % 8192)) (λ word. zero-mul _)
 
     -- "The surface code is the one with the greatest sum of weights, ties to the smaller code", code the word / 8192
-    pub code-in-bytes : Greatest (λ code. over (λ word weight. cond (eqb (word / 8192) code) weight 0)) 7 (r .code)
-    code-in-bytes = greatest-by (λ code l. sums (λ word weight. cond (eqb (word / 8192) code) weight 0) (λ word. no-weight (eqb (word / 8192) code))) (is-mean .code)
+    pub mean-code : Greatest (λ code. over (λ word weight. cond (eqb (word / 8192) code) weight 0)) 7 (r .code)
+    mean-code = greatest-by (λ code l. sums (λ word weight. cond (eqb (word / 8192) code) weight 0) (λ word. no-weight (eqb (word / 8192) code))) (mean .code)
 
   -- a corner of this weight, in this row and column, weighs in and has no height
   abbrev LacksAt : (weight row column : ℕ) → Type 0
   LacksAt weight i j = (0 < weight) × (stored file (100 * iy + ix) i j % 8192 ≡ 8191)
 
-  -- "6 is judged on the record taken": a corner that weighs in has no height there
-  pub six-exactly :
+  -- some corner does
+  abbrev pub OneLacks : Type 0
+  OneLacks =
       let f : ℕ = fx b z p in
       let g : ℕ = fy b z p in
-      (r .refusal ≡ 6)
-      ↔ ((LacksAt ((500 - f) * (500 - g)) row column ⊎ LacksAt (f * (500 - g)) row (column + 1))
-      ⊎ (LacksAt ((500 - f) * g) (row + 1) column ⊎ LacksAt (f * g) (row + 1) (column + 1)))
-  unfolding placeOf placeAt weightsOf anyLacksHeight cornersAt
+      (LacksAt ((500 - f) * (500 - g)) row column ⊎ LacksAt (f * (500 - g)) row (column + 1))
+      ⊎ (LacksAt ((500 - f) * g) (row + 1) column ⊎ LacksAt (f * g) (row + 1) (column + 1))
+
+  -- "6 is judged on the record taken": a corner that weighs in has no height there
+  module _ (on : OnGround b z p) (from : taken file (placed b z p) ≡ given (standing file b z p iy ix row column)) where
+    lacks-is : (anyLacksHeight (cornersOf file (standing file b z p iy ix row column)) ≡ true) ↔ OneLacks
+    unfolding placeOf placeAt weightsOf anyLacksHeight cornersAt
+    lacks-is =
+        let t = standing file b z p iy ix row column in
+        let within = words-within (taken-holds file (groundOf b z) p (on-ground b z p .1 on) t from) in
+        let lacks = lacks-in-bytes file (at file (100 * iy + ix)) in
+        let w = 16 * row + column + 1 in
+        either _ _
+        (either _ _ (lacks w (16 * row + column) _ (omega arith) (within .sw .1)) (lacks (w + 1) (16 * row + (column + 1)) _ (omega arith) (within .se .1)))
+        (either _ _
+        (lacks (w + 16) (16 * (row + 1) + column) _ (omega arith) (within .nw .1))
+        (lacks (w + 17) (16 * (row + 1) + (column + 1)) _ (omega arith) (within .ne .1)))
+
+    pub some-lacks-means : SomeLacks file (placed b z p) ↔ OneLacks
+    some-lacks-means =
+        let law = some-lacks file (placed b z p) _ from in
+        ((λ l. lacks-is .0 (law .1 l)), λ o. law .0 (lacks-is .1 o))
+
+-- A point of the file's zone and on its ground, in a file that passes the check, that is read from the record of rectangle 100 iy + ix, in this row and column:
+module _ (file after : List ℕ) (b z : ℕ) (c : CheckAnswer) (checks : Checks file after b z c) (passes : c .refusal ≡ 0)
+    (p : Point) (on : OnGround b z p) (r : ReadAnswer) (reads : Reads file after b z p r)
+    (iy ix row column : ℕ) (from : taken file (placed b z p) ≡ given (standing file b z p iy ix row column)) where
+  module _ (is : r .refusal ≡ 0) where
+    -- demand 2, of the record that it is read from
+    is-mean : Mean file (standing file b z p iy ix row column) (record { height = r .height; code = r .code })
+    is-mean =
+        let m = reading-is-mean file after b z c checks passes p on r reads is in
+        let i : m .source ≡ standing file b z p iy ix row column = cc (m .taken, from) in
+        rw i at (m .mean)
+
+    pub height-in-bytes : r .height ≡ over file b z p iy ix row column (λ word weight. weight * (word % 8192))
+    height-in-bytes = mean-height file b z p iy ix row column _ is-mean
+
+    pub code-in-bytes : Greatest (λ code. over file b z p iy ix row column (λ word weight. cond (eqb (word / 8192) code) weight 0)) 7 (r .code)
+    code-in-bytes = mean-code file b z p iy ix row column _ is-mean
+
+  -- it is refused with 6 exactly if a corner that weighs in has no height there
+  pub six-exactly : (r .refusal ≡ 6) ↔ OneLacks file b z p iy ix row column
   six-exactly =
       let t = standing file b z p iy ix row column in
       let same : r .refusal ≡ refusalNumber (readTaken file t) =
       refusal-is file after b z c checks passes p on r reads ∙ ap refusalNumber (ap (λ (o : Outcome Taken). o andThen readTaken file) from) in
-      let within = words-within (taken-holds file (groundOf b z) p (on-ground b z p .1 on) t from) in
-      let lacks = lacks-in-bytes file (at file (100 * iy + ix)) in
-      let w = 16 * row + column + 1 in
-      let any = either _ _
-      (either _ _ (lacks w (16 * row + column) _ (omega arith) (within .sw .1)) (lacks (w + 1) (16 * row + (column + 1)) _ (omega arith) (within .se .1)))
-      (either _ _
-      (lacks (w + 16) (16 * (row + 1) + column) _ (omega arith) (within .nw .1))
-      (lacks (w + 17) (16 * (row + 1) + (column + 1)) _ (omega arith) (within .ne .1))) in
+      let lacks = lacks-is file b z p iy ix row column on from in
       let law = six-only file t .six in
-      ((λ e. any .0 (law .0 (sym same ∙ e))), λ x. same ∙ law .1 (any .1 x))
+      ((λ e. lacks .0 (law .0 (sym same ∙ e))), λ x. same ∙ law .1 (lacks .1 x))

@@ -26,6 +26,7 @@ use Rattle.reading.specs.declared.point.ReadAnswer.{ReadAnswer}
 use Rattle.reading.specs.declared.engine.EnginePoint.{EnginePoint}
 use Rattle.reading.specs.declared.engine.EnginePoint.the-variants as point
 use Rattle.reading.proofs.Laws.Means.{engine-once}
+use Rattle.spot.specs.Spot.{spot}
 use Rattle.survey.specs.Survey.{Lists, fiveLists, upload, uploadAnswer}
 use Rattle.survey.specs.declared.UploadAnswer.{UploadAnswer}
 use Rattle.profile.specs.Profile.{Profile, profile, profileAnswer}
@@ -40,17 +41,18 @@ use Rattle.link.specs.declared.clear.VerdictAnswer.{VerdictAnswer}
 use Rattle.plan.specs.declared.PlanAnswer.{PlanAnswer}
 use Rattle.plan.proofs.Laws.Plan.{plan-is}
 use Rattle.janlishuk.specs.Engine.{engineAnswer}
-use Rattle.janlishuk.specs.Order.{FirstOf, ofFile, ofName, ofNorthing, ofPoint, ofReading, ofUpload, ofTaking, ofProfile, ofVerdict, ofPlan, ofEngineRow}
-use Rattle.janlishuk.specs.Promise.{Checks, Names, FindsBase, Reads, Uploads, HandsBack, Tells, Shows, Profiles, Judges, Plans, GivesRow}
+use Rattle.janlishuk.specs.Order.{FirstOf, ofFile, ofName, ofNorthing, ofPoint, ofReading, ofSpot, ofUpload, ofTaking, ofProfile, ofVerdict, ofPlan, ofEngineRow}
+use Rattle.janlishuk.specs.Promise.{Checks, Names, FindsBase, Reads, Spots, Uploads, HandsBack, Tells, Shows, Profiles, Judges, Plans, GivesRow}
 use Rattle.janlishuk.specs.Call.{EachMeets, Surveyed, checkShown, nameShown, baseShown, readShown, uploadShown, pointShown, profileShown, verdictShown, planShown, rowShown, enumShown, recordShown}
 use Rattle.janlishuk.specs.declared.point.EngineAnswer.{EngineAnswer}
 use Rattle.janlishuk.proofs.Laws.Line.{giving, some-of}
-use Rattle.janlishuk.proofs.Laws.Order.{file-order, name-order, base-order, taking-order, reading-order, upload-order, profile-order, verdict-order, plan-order, row-order}
+use Rattle.janlishuk.proofs.Laws.Order.{file-order, name-order, base-order, taking-order, reading-order, spot-order, upload-order, profile-order, verdict-order, plan-order, row-order}
 use Rattle.janlishuk.proofs.Laws.Call.{Shape, by-number, as-struct, Entry, callsOf, each-meets, filling, entered}
 use Rattle.janlishuk.proofs.file.janlishuk_check.Reads as janlishuk-check
 use Rattle.janlishuk.proofs.file.janlishuk_name.Reads as janlishuk-name
 use Rattle.janlishuk.proofs.file.janlishuk_base.Reads as janlishuk-base
 use Rattle.janlishuk.proofs.point.janlishuk_read.Reads as janlishuk-read
+use Rattle.janlishuk.proofs.point.janlishuk_spot.Reads as janlishuk-spot
 use Rattle.janlishuk.proofs.upload.janlishuk_upload.Reads as janlishuk-upload
 use Rattle.janlishuk.proofs.point.record.Reads as record-at
 use Rattle.janlishuk.proofs.point.engine_point.Reads as engine-point
@@ -179,6 +181,22 @@ read-call =
       promises = λ κs a r x h. h;
       keeps = λ κs a r x h. h;
       ordered = λ κs (file, (base, (zone, (spot, end)))). reading-order (file .now) base zone spot;
+    })
+
+-- `janlishuk_spot`: 1, 2, 3 for M, 4, 3 for an entry, 5, 6
+abbrev pub spot-call : Entry
+spot-call =
+    entered janlishuk-spot.Asked janlishuk-spot.Learnt (record {
+      promised = λ κs (file, (base, (zone, (p, end)))) r (after, rest). Spots (file .now) (after .now) base zone p r;
+      order = λ κs (file, (base, (zone, (p, end)))). ofSpot (file .now) base zone p;
+      shown = λ κs a. readShown;
+      Unwritten = λ κs (file, (base, (zone, (p, end)))) x. x .0 .now ≡ file .now;
+      outcome = λ κs (file, (base, (zone, (p, end)))). spot (file .now) base zone p;
+      shape = λ κs a. read-shape;
+      asks = λ κs a. tt;
+      promises = λ κs a r x h. h;
+      keeps = λ κs a r x h. h;
+      ordered = λ κs (file, (base, (zone, (p, end)))). spot-order (file .now) base zone p;
     })
 
 -- what five lent lists hold
@@ -321,6 +339,7 @@ calls =
     ∷ name-call
     ∷ base-call
     ∷ read-call
+    ∷ spot-call
     ∷ upload-call
     ∷ record-call
     ∷ enum-call

@@ -3,7 +3,7 @@
 -- points they hold, and the numbers of each call in their order. They are stated in bytes and numbers, so that no definition that they speak of can be wrong
 -- in the same way as the program. Assumes nothing.
 use mathlib.Core.Path.{_≡_, refl, _∙_, ap}
-use mathlib.Core.Logic.{_⊎_, inl, inr, _↔_}
+use mathlib.Core.Logic.{_⊎_, inl, inr, ⊎-elim, _↔_}
 use mathlib.Core.Bool.{true, false, _&&_, and-eq-true-iff}
 use mathlib.Core.List.{List, [], _∷_, _++_}
 use Prim.Native.Nat.{ℕ, zero, suc, _+_, _-_, _*_, _/_, _%_, _≤_, _<_}
@@ -20,16 +20,19 @@ use Rattle.ground.specs.declared.place.Place.{Place}
 use Rattle.ground.proofs.Laws.Seam as seam
 use Rattle.ground.proofs.Laws.Seam.{on-west, on-south, Four, four-is}
 use Rattle.index.specs.Bytes.{nth, records, Whole}
-use Rattle.index.specs.Index.{position, Passes}
+use Rattle.index.specs.Index.{position, HighestIn, Passes}
 use Rattle.terrain.specs.Record.{entry, firstCovered, taken, Uncovered}
 use Rattle.terrain.specs.declared.record.Taken.{Taken}
 use Rattle.terrain.proofs.Laws.Checked.{not-covered}
 use Rattle.terrain.proofs.Laws.Taken.{covered-taken, passed-over, uncovered-is}
+use Rattle.reading.specs.Vote.{Greatest}
+use Rattle.spot.specs.Spot.{LooksAt, NamesNoRecord}
+use Rattle.spot.proofs.Laws.Spot.{looks-when}
 use Rattle.survey.specs.Survey.{Lists, fiveLists, mostPoints, pointCount, pointAt, Unfit}
 use Rattle.survey.proofs.Laws.Lists.{most-points-is, count-is, point-is, lists-is, ListsFit, fits-exactly}
 use Rattle.path.specs.Path.{Q, N, pathOf, sample, farthest, tallest}
 use Rattle.path.proofs.Laws.Path.{farthest-is}
-use Rattle.janlishuk.specs.Order.{Line, FirstOf, placed, ofFile, ofName, ofNorthing, ofPoint, ofEnds, ofMasts, ofRow, ofSamples, ofPairs, ofReading, ofUpload, ofTaking, ofProfile, ofVerdict, ofPlan, ofEngineRow}
+use Rattle.janlishuk.specs.Order.{Line, FirstOf, IsNamed, OnGround, placed, ofFile, ofName, ofNorthing, ofPoint, ofEnds, ofMasts, ofRow, ofSamples, ofPairs, ofReading, ofSpot, ofUpload, ofTaking, ofProfile, ofVerdict, ofPlan, ofEngineRow}
 
 -- "With x = E / 500, y = N / 500 truncated: Iy = (y - yB) / 31, Ix = (x - 250) / 15, rectangle n = 100 Iy + Ix. In it wx = x - 250 - 15 Ix,
 -- wy = y - yB - 31 Iy, word w = 16 wy + wx + 1. The corners are words w, w+1, w+16, w+17." "fx = E mod 500, fy = N mod 500. Weights: SW (500-fx)(500-fy),
@@ -231,6 +234,107 @@ module _ (file : List ℕ) where
         go k u (seam.south v e) = rw e (k .of-south (south-is .0 v))
         go k u (seam.corner w v e) = rw e (k .of-corner (west-is .0 w) (south-is .0 v))
 
+    -- Document 02, request c), which says what a spot looks at: "this point's entries in the order of request b), stopping at the first that isn't 0, and at no
+    -- others". Position n is looked at.
+    pub data Looked (n : ℕ) : Type 0 where
+      at-own : 1 ≤ own → n ≡ own → Looked n
+      at-west : NotCovered own → OnWest → 1 ≤ west → n ≡ west → Looked n
+      at-south : NotCovered own → (OnWest → NotCovered west) → OnSouth → 1 ≤ south → n ≡ south → Looked n
+      at-corner :
+          NotCovered own
+          → (OnWest → NotCovered west)
+          → (OnSouth → NotCovered south)
+          → OnWest
+          → OnSouth
+          → 1 ≤ south-west
+          → n ≡ south-west
+          → Looked n
+
+    pub looked-means : (n : ℕ) → LooksAt file (allowed (placed b z p)) n ↔ Looked n
+    unfolding placeOf placeAt allowed
+    looked-means n = (
+      ⊎-elim (λ h. at-own (h .0) (h .1)) (λ h.
+          let of-own = not-covered-means own .0 (h .0) in
+          ⊎-elim (λ x. at-west of-own (west-is .0 (x .0)) (x .1 .0) (x .1 .1)) (λ x.
+          let of-west : OnWest → NotCovered west = λ o. not-covered-means west .0 (x .0 (west-is .1 o)) in
+          ⊎-elim (λ y. at-south of-own of-west (south-is .0 (y .0)) (y .1 .0) (y .1 .1)) (λ y.
+          let of-south : OnSouth → NotCovered south = λ o. not-covered-means south .0 (y .0 (south-is .1 o)) in
+          ⊎-elim (λ c.
+          let both = and-eq-true-iff (westAllowed s) (southAllowed s) .0 (c .0) in
+          at-corner of-own of-west of-south (west-is .0 (both .0)) (south-is .0 (both .1)) (c .1 .0) (c .1 .1)) (λ c. absurd (c .1)) (third .0 (y .1)))
+          (second .0 (x .1))) (first .0 (h .1))),
+      from,
+    )
+      where
+        s : Place
+        s = placed b z p
+
+        last : List Place
+        last = when (westAllowed s && southAllowed s) (inSouth (inWest s)) []
+
+        first : LooksAt file (beside s) n
+            ↔ (((westAllowed s ≡ true) × ((1 ≤ west) × (n ≡ west))) ⊎ ((westAllowed s ≡ true → entry file west ≡ 0) × LooksAt file (when (southAllowed s) (inSouth s) last) n))
+        first = looks-when file (westAllowed s) (inWest s) (when (southAllowed s) (inSouth s) last) n
+
+        second : LooksAt file (when (southAllowed s) (inSouth s) last) n
+            ↔ (((southAllowed s ≡ true) × ((1 ≤ south) × (n ≡ south))) ⊎ ((southAllowed s ≡ true → entry file south ≡ 0) × LooksAt file last n))
+        second = looks-when file (southAllowed s) (inSouth s) last n
+
+        third : LooksAt file last n
+            ↔ ((((westAllowed s && southAllowed s) ≡ true) × ((1 ≤ south-west) × (n ≡ south-west))) ⊎ (((westAllowed s && southAllowed s) ≡ true → entry file south-west ≡ 0) × ⊥))
+        third = looks-when file (westAllowed s && southAllowed s) (inSouth (inWest s)) [] n
+
+        from : Looked n → LooksAt file (allowed s) n
+        from (at-own l e) = inl (l, e)
+        from (at-west of-own o l e) = inr (not-covered-means own .1 of-own, first .1 (inl (west-is .1 o, (l, e))))
+        from (at-south of-own of-west o l e) =
+            inr (
+              not-covered-means own .1 of-own,
+              first .1 (inr ((λ t. not-covered-means west .1 (of-west (west-is .0 t))), second .1 (inl (south-is .1 o, (l, e))))),
+            )
+        from (at-corner of-own of-west of-south o q l e) =
+            inr (
+              not-covered-means own .1 of-own,
+              first .1 (inr (
+                (λ t. not-covered-means west .1 (of-west (west-is .0 t))),
+                second .1 (inr (
+                  (λ t. not-covered-means south .1 (of-south (south-is .0 t))),
+                  third .1 (inl (and-eq-true-iff (westAllowed s) (southAllowed s) .1 (west-is .1 o, south-is .1 q), (l, e))),
+                )),
+              )),
+            )
+
+    -- what is looked at has a position
+    looked-entry : (n : ℕ) → Looked n → entry file n ≡ at n
+    looked-entry n (at-own l e) = own-position n (omega arith)
+    looked-entry n (at-west a b l e) = own-position n (omega arith)
+    looked-entry n (at-south a b c l e) = own-position n (omega arith)
+    looked-entry n (at-corner a b c d e l q) = own-position n (omega arith)
+
+    -- 3 of an entry: "the first entry looked at that is neither 0 nor 7 to M"
+    pub record NamesNone : Type 0 where
+      pub position : ℕ
+      pub looked : Looked position
+      pub some : at position ≡ 0 → ⊥
+      pub other : (7 ≤ at position) × (at position ≤ at 3072) → ⊥
+
+    pub names-none-means : NamesNoRecord file (placed b z p) ↔ NamesNone
+    unfolding nth
+    names-none-means = (
+      (λ k.
+          let l = looked-means (k .at) .0 (k .looked) in
+          let is = looked-entry (k .at) l in
+          record { position = k .at; looked = l; some = rw is at (k .some); other = rw is at (k .other) }),
+      λ k.
+          let is = looked-entry (k .position) (k .looked) in
+          record { at = k .position; looked = looked-means (k .position) .1 (k .looked); some = rw is (k .some); other = rw is (k .other) },
+    )
+
+  -- M is outside its range exactly where it is not from 6 to the number of records
+  pub highest-means : HighestIn file ↔ ((6 ≤ at 3072) × (at 3072 ≤ length file / 1024))
+  unfolding nth
+  highest-means = ((λ h. (h .least, h .most)), λ h. record { least = h .0; most = h .1 })
+
   -- 1: length not 1024 times a number from 6 to 4096
   pub record Long : Type 0 where
     pub count : ℕ
@@ -302,6 +406,23 @@ pub named-bounds : (
 unfolding named
 named-bounds = (refl, refl, refl, refl, refl, refl, refl, refl)
 
+-- 2: "base or zone not among those named", in numbers
+pub named-means : (b z : ℕ) → IsNamed b z ↔ ((b ≡ 4 * (b / 4)) × (b ≤ 80) × (1 ≤ z) × (z ≤ 60))
+named-means b z = ((λ n. (n .fours, n .most, n .first, n .last)), λ n. record { fours = n .0; most = n .1; first = n .2; last = n .3 })
+
+-- 4: the point is "of the file's zone and on its ground", in numbers
+pub ground-means : (b z : ℕ) (p : Point) → OnGround b z p
+    ↔ ((p .zone ≡ z) × (125000 ≤ p .easting .0) × (p .easting .0 ≤ 874999) × (500 * yB b .0 ≤ p .northing .0) × (p .northing .0 < 500 * yB (b + 4) .0))
+ground-means b z p = (
+  (λ n. (n .zone, n .west, n .east, n .south, n .north)),
+  λ n. record { zone = n .0; west = n .1; east = n .2; south = n .3; north = n .4 },
+)
+
+-- the code with the greatest sum of weights, ties to the smaller code
+pub greatest-means : (f : ℕ → ℕ) (n best : ℕ) → Greatest f n best
+    ↔ ((best ≤ n) × ((k : ℕ) → k ≤ n → f k ≤ f best) × ((k : ℕ) → k < best → f k < f best))
+greatest-means f n best = ((λ g. (g .within, g .most, g .tie)), λ g. record { within = g .0; most = g .1; tie = g .2 })
+
 -- the numbers that have a name, in the documents' digits: Q of 100 km, 100 m of mast, and 256 points. Where the last file ends, y = 18,662, is in the table.
 pub named-numbers : (farthest ≡ 10000000000) × (tallest ≡ 100) × (mostPoints ≡ 256)
 named-numbers = (farthest-is, refl, most-points-is)
@@ -357,7 +478,8 @@ Numbered ls ns ps = (numbers ls ≡ ns) × (places ls ≡ ps)
 
 -- "Order: 1, 2, 3, then 4 for the first end, 4 for the second, 7, 8, then samples from 0 upward, each tried for 4, 5, 6 in that order, then 9." "The place is the
 -- sample number for refusals met at samples, else 0."
--- Document 02, request a): "Refusals: 1, 2, 3, then 10".
+-- Document 02, request a): "Refusals: 1, 2, 3, then 10"; request c): "Refusals: 1, 2, 3 for M outside its range, 4, then 3 for the first entry looked at that is
+-- neither 0 nor 7 to M, then 5 and 6."
 module _ (file : List ℕ) (b z : ℕ) (p q : Point) (ma mb i : ℕ) (l : Lists) where
   -- how many samples the path has
   abbrev k : ℕ
@@ -368,6 +490,7 @@ module _ (file : List ℕ) (b z : ℕ) (p q : Point) (ma mb i : ℕ) (l : Lists)
     pub name : Numbered (ofName b z) (2 ∷ []) (0 ∷ [])
     pub base : Numbered (ofNorthing i) (4 ∷ []) (0 ∷ [])
     pub read : Numbered (ofReading file b z p) (1 ∷ 2 ∷ 3 ∷ 4 ∷ 5 ∷ 6 ∷ []) (0 ∷ 0 ∷ 0 ∷ 0 ∷ 0 ∷ 0 ∷ [])
+    pub spot : Numbered (ofSpot file b z p) (1 ∷ 2 ∷ 3 ∷ 4 ∷ 3 ∷ 5 ∷ 6 ∷ []) (0 ∷ 0 ∷ 0 ∷ 0 ∷ 0 ∷ 0 ∷ 0 ∷ [])
     pub upload : Numbered (ofUpload file b z l) (1 ∷ 2 ∷ 3 ∷ 10 ∷ []) (0 ∷ 0 ∷ 0 ∷ 0 ∷ [])
     pub taking : Numbered (ofTaking file b z p) (1 ∷ 2 ∷ 3 ∷ 4 ∷ 5 ∷ []) (0 ∷ 0 ∷ 0 ∷ 0 ∷ 0 ∷ [])
     pub profile : Numbered (ofProfile file b z p q) ((1 ∷ 2 ∷ 3 ∷ 4 ∷ 4 ∷ 7 ∷ []) ++ fours k) ((0 ∷ 0 ∷ 0 ∷ 0 ∷ 0 ∷ 0 ∷ []) ++ thrice k)
@@ -397,6 +520,7 @@ module _ (file : List ℕ) (b z : ℕ) (p q : Point) (ma mb i : ℕ) (l : Lists)
         name = (refl, refl);
         base = (refl, refl);
         read = (refl, refl);
+        spot = (refl, refl);
         upload = (refl, refl);
         taking = (refl, refl);
         profile = append (before []) samples (refl, refl) (at-samples k);
@@ -417,3 +541,7 @@ first-holds l ls refusal place (inr h) c = absurd (h .0 c)
 pub first-fails : (l : Line) (ls : List Line) (refusal place : ℕ) → FirstOf (l ∷ ls) refusal place → (l .condition → ⊥) → FirstOf ls refusal place
 first-fails l ls refusal place (inl h) n = absurd (n (h .0))
 first-fails l ls refusal place (inr h) n = h .1
+
+-- where no line is left, the call is not refused
+pub first-none : (refusal place : ℕ) → FirstOf [] refusal place → (refusal ≡ 0) × (place ≡ 0)
+first-none refusal place h = h

@@ -13,9 +13,10 @@ use Rattle.ground.specs.Place.{placeOf}
 use Rattle.ground.specs.declared.point.Point.{Point}
 use Rattle.ground.specs.declared.place.Place.{Place}
 use Rattle.index.specs.Bytes.{Whole}
-use Rattle.index.specs.Index.{Passes}
+use Rattle.index.specs.Index.{HighestIn, Passes}
 use Rattle.terrain.specs.Record.{Uncovered}
 use Rattle.reading.specs.Demand.{SomeLacks}
+use Rattle.spot.specs.Spot.{NamesNoRecord}
 use Rattle.survey.specs.Survey.{Lists, Unfit}
 use Rattle.path.specs.Path.{Q, N, pathOf, sample, farthest}
 use Rattle.link.specs.Clear.{verdict}
@@ -38,7 +39,7 @@ SomeOf [] = ⊥
 SomeOf (l ∷ ls) = l .condition ⊎ SomeOf ls
 
 -- a number that is met at no sample: its place is 0
-abbrev no : ℕ → Type 0 → Line
+abbrev pub no : ℕ → Type 0 → Line
 no number condition = record { number = number; place = 0; condition = condition }
 
 -- a base latitude b (0, 4, .. 80) and a zone (1 to 60)
@@ -113,6 +114,19 @@ ofLink eight file b z p q = ofFile file b z ++ ((ofEnds b z p q ++ eight) ++ ofS
 -- `ofNorthing`. `janlishuk_read`, `engine_point` and `janlishuk_engine_point`: 1 to 6
 abbrev pub ofReading : List ℕ → ℕ → ℕ → Point → List Line
 ofReading file b z p = ofFile file b z ++ ofPoint file b z 0 p
+
+-- `janlishuk_spot`: 1, 2, 3 for M outside its range, 4, then 3 for the first entry looked at that is neither 0 nor 7 to M, then 5 and 6 (document 02,
+-- request c)
+abbrev pub ofSpot : List ℕ → ℕ → ℕ → Point → List Line
+ofSpot file b z p =
+    no 1 (Whole file → ⊥)
+    ∷ no 2 (IsNamed b z → ⊥)
+    ∷ no 3 (HighestIn file → ⊥)
+    ∷ no 4 (OnGround b z p → ⊥)
+    ∷ no 3 (NamesNoRecord file (placed b z p))
+    ∷ no 5 (Uncovered file (placed b z p))
+    ∷ no 6 (SomeLacks file (placed b z p))
+    ∷ []
 
 -- `janlishuk_upload`: 1, 2, 3, then 10 of the lent lists (document 02, request a)
 abbrev pub ofUpload : List ℕ → ℕ → ℕ → Lists → List Line

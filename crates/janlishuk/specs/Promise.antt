@@ -17,6 +17,7 @@ use Rattle.reading.specs.Engine.{engine, engineMeans}
 use Rattle.terrain.specs.declared.check.CheckAnswer.{CheckAnswer}
 use Rattle.reading.specs.declared.point.ReadAnswer.{ReadAnswer}
 use Rattle.reading.specs.declared.engine.EnginePoint.{EnginePoint}
+use Rattle.spot.specs.Spot.{spot}
 use Rattle.survey.specs.Survey.{Lists, Uploaded}
 use Rattle.survey.specs.declared.UploadAnswer.{UploadAnswer}
 use Rattle.path.specs.Path.{askMasts}
@@ -50,6 +51,10 @@ FindsBase northing r = r ≡ baseAnswer (baseOf (metres northing))
 -- `janlishuk_read`: the exact height and the surface code of a point, or refusal 1 to 6
 abbrev pub Reads : (before after : List ℕ) → ℕ → ℕ → Point → ReadAnswer → Type 0
 Reads file after b z p r = (r ≡ readAnswer (reading file b z p)) × Unwritten file after
+
+-- `janlishuk_spot`: the exact height and the surface code of a point, with no check of the whole index, or refusal 1 to 6
+abbrev pub Spots : (before after : List ℕ) → ℕ → ℕ → Point → ReadAnswer → Type 0
+Spots file after b z p r = (r ≡ readAnswer (spot file b z p)) × Unwritten file after
 
 -- `janlishuk_upload`: what all five lent lists hold afterwards, of which three are filled with what the points give; or refusal 1, 2, 3 or 10, and they
 -- hold what they held

@@ -17,6 +17,7 @@ pub use point::EngineAnswer;
 pub use point::engine_point;
 pub use point::janlishuk_engine_point;
 pub use point::janlishuk_read;
+pub use point::janlishuk_spot;
 pub use point::record;
 pub use profile::ProfileAnswer;
 pub use profile::row::Row;

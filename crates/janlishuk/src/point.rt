@@ -1,5 +1,6 @@
-// The calls on a point of a file: its reading, its record, and the point for the prediction engine.
-ghost use Rattle.janlishuk.specs.Promise.{Reads, HandsBack, Tells, Shows};
+// The calls on a point of a file: its reading, with and without a check of the whole index, its record,
+// and the point for the prediction engine.
+ghost use Rattle.janlishuk.specs.Promise.{Reads, Spots, HandsBack, Tells, Shows};
 use ground::point::Point;
 use reading::engine::EnginePoint;
 use reading::point::ReadAnswer;
@@ -27,6 +28,16 @@ pub extern "C" fn janlishuk_read(file: &[u8], base: u32, zone: u32, point: Point
     ensures { λ r. ⌜ Reads (now (file .entry)) (now (file .exit)) base zone point r ⌝ }
 {
     reading::point::read(file, base, zone, point)
+}
+
+// The exact height in 1/250,000 m and the surface code of a point, or refusal 1 to 6, as `janlishuk_read`;
+// but of the index only M and the entries of the rectangles that the point may be read from, up to the
+// first that is not 0, are looked at.
+#[no_mangle]
+pub extern "C" fn janlishuk_spot(file: &[u8], base: u32, zone: u32, point: Point) -> ReadAnswer
+    ensures { λ r. ⌜ Spots (now (file .entry)) (now (file .exit)) base zone point r ⌝ }
+{
+    spot::read(file, base, zone, point)
 }
 
 // The record that a point is read from, a part of the file: empty exactly where refusal 1, 2, 3 or 4

@@ -41,7 +41,7 @@ pub fn sample_of(heights: &[u32; ROOM], codes: &[u8; ROOM], i: u32) -> Reading
 {
     Reading {
         height: heights[i as usize],
-        code: codes[i as usize] as u32,
+        code: codes[i as usize],
     }
 }
 

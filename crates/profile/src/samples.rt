@@ -34,7 +34,7 @@ fn walk(
         match reading::point::read_in(file, terrain, path.sample(i)) {
             PointRead::Given(reading) => {
                 heights[i as usize] = reading.height;
-                codes[i as usize] = reading.code as u8;
+                codes[i as usize] = reading.code;
             }
             PointRead::Refused(number) => return Sampled::Refused(number, i),
         }

@@ -67,17 +67,15 @@ pub record SomeLacks (file : List ℕ) (s : Place) : Type 0 where
       (at (w .sw) (k .sw) ⊎ at (w .se) (k .se)) ⊎ (at (w .nw) (k .nw) ⊎ at (w .ne) (k .ne))
 
 -- the reading r from the record taken, t
-pub record Mean (file : List ℕ) (rows : ℕ) (t : Taken) (r : Reading) : Type 0 where
+pub record Mean (file : List ℕ) (t : Taken) (r : Reading) : Type 0 where
   -- the height is the exact four-corner mean of words of the rectangle,
   pub height : r .height ≡ mean (wordOf file (rectangleOf t)) (wordsOf (t .place)) (t .place .weights)
   -- whose record is a whole one past the index,
   pub named : t .entry ≡ entry file (rectangleOf t)
   pub past : 7 ≤ t .entry
   pub long : length (recordBytes file (t .entry)) ≡ 1024
-  -- that has the corners that weigh in among its 512 words,
+  -- that has the corners that weigh in among its 512 words;
   pub corners : AtEach (λ w weight. 0 < weight → (1 ≤ w) × (w ≤ 512)) (wordsOf (t .place)) (t .place .weights)
-  -- and its own: no other rectangle of the file has it;
-  pub own : (m : ℕ) → m < 100 * rows → covered file m ≡ true → entry file m ≡ t .entry → m ≡ rectangleOf t
   -- the height is within the weighing corners, whatever bounds they have in common;
   pub within : (lo hi : ℕ) → AtEach (LiesBetween lo hi (wordOf file (rectangleOf t))) (wordsOf (t .place)) (t .place .weights)
       → (250000 * lo ≤ r .height) × (r .height ≤ 250000 * hi)
@@ -85,9 +83,11 @@ pub record Mean (file : List ℕ) (rows : ℕ) (t : Taken) (r : Reading) : Type 
   -- the code has the greatest sum of weights, ties to the smaller
   pub code : Greatest (codeSum (wordOf file (rectangleOf t)) (wordsOf (t .place)) (t .place .weights)) 7 (r .code)
 
--- the reading r of a point p in the file of base b and zone z is the mean of the record taken, whose rectangle's grid holds the point
+-- the reading r of a point p in the file of base b and zone z is the mean of the record taken, whose rectangle's grid holds the point and whose record is its
+-- own: no other rectangle of the file has it
 pub record IsMean (file : List ℕ) (b z : ℕ) (p : Point) (r : Reading) : Type 0 where
   pub source : Taken
   pub taken : taken file (placeOf (groundOf b z) p) ≡ given source
   pub holds : GridHolds (groundOf b z) p (source .place)
-  pub mean : Mean file (rows b) source r
+  pub mean : Mean file source r
+  pub own : (m : ℕ) → m < 100 * rows b → covered file m ≡ true → entry file m ≡ source .entry → m ≡ rectangleOf source

@@ -1,14 +1,15 @@
 -- What the functions inside this crate ask of each other and tell each other, on the way to the promises. A reader of the promises may pass
 -- over this file. Assumes nothing.
 use mathlib.Core.Path.{_≡_}
-use mathlib.Core.Bool.{Bool, _&&_}
+use mathlib.Core.Bool.{Bool, cond, _&&_}
 use mathlib.Core.List.{List}
 use Prim.Native.Nat.{ℕ, _+_, _*_, _≤_, _<_}
-use lib.Dec.{eqb}
+use lib.Dec.{ltb, eqb}
 use lib.ListN.{length}
 use Rattle.ground.specs.Place.{Each, AtEach}
 use Rattle.ground.specs.declared.place.Words.{Words}
 use Rattle.ground.specs.declared.place.Weights.{Weights}
+use Rattle.index.specs.Bytes.{nth}
 use Rattle.reading.specs.Corner.{corner}
 use Rattle.reading.specs.declared.corner.Corner.{Corner}
 use Rattle.reading.specs.declared.corner.Corners.{Corners}
@@ -31,6 +32,10 @@ pub record Looked (bytes : List ℕ) (w weight : ℕ) (c : Corner) : Type 0 wher
 abbrev pub WithinAt : List ℕ → ℕ → ℕ → Type 0
 WithinAt bytes w weight = (1 ≤ w) × (0 < weight → 2 * w ≤ length bytes)
 
+-- word w of the record where its corner weighs in, else 0
+abbrev pub wordWhere : List ℕ → ℕ → ℕ → ℕ
+wordWhere bytes w weight = cond (eqb weight 0) 0 (nth bytes w)
+
 -- the words of the weighing corners are words of the record, and the weights add up to 250,000
 pub record Within (bytes : List ℕ) (w : Words) (weights : Weights) : Type 0 where
   pub corners : AtEach (WithinAt bytes) w weights
@@ -44,3 +49,7 @@ pub record Weighed (c : Corners) : Type 0 where
 -- the four corners have one code
 abbrev pub alike : Corners → Bool
 alike c = eqb (c .sw .code) (c .se .code) && eqb (c .nw .code) (c .ne .code) && eqb (c .sw .code) (c .nw .code)
+
+-- the south-west corner weighs more than the others together
+abbrev pub outweighs : Corners → Bool
+outweighs c = ltb (c .se .weight + c .nw .weight + c .ne .weight) (c .sw .weight)

@@ -3,8 +3,8 @@ use mathlib.Core.List.{List}
 use Prim.Native.Nat.{ℕ}
 use Rattle.ground.specs.Outcome.{Outcome, given, refused, unless, _andThen_, refusalNumber, refusalPlace, filledBy}
 use Rattle.ground.specs.declared.point.Point.{Point}
-use Rattle.terrain.specs.Check.{checked}
-use Rattle.terrain.specs.Record.{recordIn}
+use Rattle.terrain.specs.Check.{highestOf, checked}
+use Rattle.terrain.specs.Record.{recordIn, vouched}
 use Rattle.terrain.specs.declared.check.Terrain.{Terrain}
 use Rattle.terrain.specs.declared.record.Taken.{Taken}
 use Rattle.reading.specs.Corner.{cornersOf, anyLacksHeight, exactHeight}
@@ -22,6 +22,10 @@ readCorners c = unless (anyLacksHeight c) 6 (given (record { height = exactHeigh
 -- the reading from the record taken
 unfoldable pub readTaken : List ℕ → Taken → Outcome Reading
 readTaken file t = readCorners (cornersOf file t)
+
+-- a point of a file that was opened: 4, then 5 or, for an entry that names no record, 3, which cannot both hold, then 6, else the reading
+unfoldable pub spotIn : List ℕ → Terrain → Point → Outcome Reading
+spotIn file t p = recordIn file t p andThen vouched (highestOf t) andThen readTaken file
 
 -- a point of a checked file: 4 and 5 for its record, then 6, else the reading
 unfoldable pub pointIn : List ℕ → Terrain → Point → Outcome Reading

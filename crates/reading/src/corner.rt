@@ -2,7 +2,7 @@
 ghost use mathlib.Core.Path.{_≡_};
 ghost use Prim.Native.Nat.{_*_, _≤_};
 ghost use Rattle.reading.specs.Corner.{cornersAt, anyLacksHeight, exactHeight};
-ghost use Rattle.reading.specs.Inside.{Looked, WithinAt, Within, Weighed};
+ghost use Rattle.reading.specs.Inside.{Looked, WithinAt, wordWhere, Within, Weighed};
 use ground::place::Weights;
 use ground::place::Words;
 use index::bytes::nth;
@@ -25,19 +25,23 @@ pub struct Corners {
     pub ne: Corner,
 }
 
-// The corner at word w of the record. The word of a corner that does not weigh in is not looked at.
+// Word w of the record where its corner weighs in; else the word is not looked at, and 0 stands for it.
+fn word_at(bytes: &[u8], w: usize, weight: u32) -> u32
+    requires { ⌜ WithinAt (now bytes) w weight ⌝ }
+    ensures { λ r. ⌜ (r ≡ wordWhere (now (bytes .entry)) w weight) × (r ≤ 65535) ⌝ }
+{
+    if weight == 0 {
+        return 0;
+    }
+    nth(bytes, w) as u32
+}
+
+// The corner at word w of the record. A corner that does not weigh in has weight, code and elevation 0.
 fn corner_at(bytes: &[u8], w: usize, weight: u32) -> Corner
     requires { ⌜ WithinAt (now bytes) w weight ⌝ }
     ensures { λ r. ⌜ Looked (now (bytes .entry)) w weight r ⌝ }
 {
-    if weight == 0 {
-        return Corner {
-            weight: 0,
-            code: 0,
-            elevation: 0,
-        };
-    }
-    let stored = nth(bytes, w);
+    let stored = word_at(bytes, w, weight);
     Corner {
         weight,
         code: word::code_of(stored),

@@ -34,10 +34,11 @@ pub fn engine_point(file: &[u8], base: u32, zone: u32, point: Point) -> EnginePo
     match crate::point::read_point(file, base, zone, point) {
         PointRead::Given(reading) => {
             let metres = metres_of(reading.height);
-            if is_water(reading.code) {
-                EnginePoint::Water(metres, reading.code)
+            let code = reading.code as u32;
+            if is_water(code) {
+                EnginePoint::Water(metres, code)
             } else {
-                EnginePoint::Land(metres, reading.code)
+                EnginePoint::Land(metres, code)
             }
         }
         PointRead::Refused(number) => EnginePoint::Refused(number),

@@ -1,8 +1,8 @@
 // The reading of a point.
 ghost use mathlib.Core.Path.{_≡_};
-ghost use Rattle.terrain.specs.Check.{Gave};
+ghost use Rattle.terrain.specs.Check.{Opens};
 ghost use Rattle.terrain.specs.Inside.{Reaches};
-ghost use Rattle.reading.specs.Reading.{readCorners, readTaken, pointIn, reading, pointReadMeans, readAnswer};
+ghost use Rattle.reading.specs.Reading.{readCorners, readTaken, spotIn, reading, pointReadMeans, readAnswer};
 ghost use Rattle.reading.specs.Inside.{Weighed};
 use crate::corner;
 use crate::corner::Corners;
@@ -18,7 +18,7 @@ use terrain::record::Taken;
 // What is read at a point: the exact height in 1/250,000 m, and the surface code.
 pub struct Reading {
     pub height: u32,
-    pub code: u32,
+    pub code: u8,
 }
 
 // What reading a point comes to: the reading, or the number of the refusal.
@@ -46,7 +46,7 @@ impl PointRead {
                 refusal: 0,
                 place: 0,
                 height: reading.height,
-                code: reading.code,
+                code: reading.code as u32,
             },
             PointRead::Refused(refusal) => ReadAnswer {
                 refusal,
@@ -68,7 +68,7 @@ fn read_corners(corners: Corners) -> PointRead
     }
     PointRead::Given(Reading {
         height: corner::exact_height(corners),
-        code: vote::vote(corners),
+        code: vote::vote(corners) as u8,
     })
 }
 
@@ -83,10 +83,11 @@ fn read_taken(file: &[u8], taken: Taken) -> PointRead
     read_corners(corner::corners_at(bytes, place.words(), weights))
 }
 
-// The reading of a point in a checked file, or refusal 4, 5 or 6.
+// The reading of a point in a file that was opened; or refusal 4, 3 for an entry that names no record, 5
+// or 6. In a file that passes the check every entry but 0 names one, and 3 is never given.
 pub fn read_in(file: &[u8], terrain: Terrain, point: Point) -> PointRead
-    requires { ⌜ Gave (now file) terrain ⌝ }
-    ensures { λ r. ⌜ pointReadMeans r ≡ pointIn (now (file .entry)) terrain point ⌝ }
+    requires { ⌜ Opens (now file) terrain ⌝ }
+    ensures { λ r. ⌜ pointReadMeans r ≡ spotIn (now (file .entry)) terrain point ⌝ }
 {
     match record::seek(file, terrain, point) {
         Sought::From(taken) => read_taken(file, taken),

@@ -2,7 +2,7 @@
 ghost use mathlib.Core.Path.{_≡_};
 ghost use Prim.Native.Nat.{_+_, _≤_, _<_};
 ghost use lib.ListN.{getD, set};
-ghost use Rattle.reading.specs.Inside.{Weighed, alike};
+ghost use Rattle.reading.specs.Inside.{Weighed, alike, outweighs};
 ghost use Rattle.reading.specs.Vote.{vote, greatest};
 use crate::corner::Corner;
 use crate::corner::Corners;
@@ -41,6 +41,14 @@ fn are_alike(corners: Corners) -> bool
         & (corners.sw.code == corners.nw.code)
 }
 
+// Whether the south-west corner weighs more than the others together.
+fn sw_outweighs(corners: Corners) -> bool
+    requires { ⌜ Weighed corners ⌝ }
+    ensures { λ r. ⌜ r ≡ outweighs corners ⌝ }
+{
+    corners.se.weight + corners.nw.weight + corners.ne.weight < corners.sw.weight
+}
+
 // The surface code with the greatest sum of weights, ties to the smaller code, found by adding the
 // weights up for each code.
 fn tally(corners: Corners) -> u32
@@ -55,13 +63,17 @@ fn tally(corners: Corners) -> u32
     greatest_of(&sums)
 }
 
-// The surface code with the greatest sum of weights, ties to the smaller code. Where all corners have
-// one code, as most do, it is that.
+// The surface code with the greatest sum of weights, ties to the smaller code. Where the four corners
+// have one code, or the south-west one outweighs the others, as at a point of whole units, it is the
+// code of the south-west one, and nothing is added up.
 pub(crate) fn vote(corners: Corners) -> u32
     requires { ⌜ Weighed corners ⌝ }
     ensures { λ r. ⌜ r ≡ vote corners ⌝ }
 {
     if are_alike(corners) {
+        return corners.sw.code;
+    }
+    if sw_outweighs(corners) {
         return corners.sw.code;
     }
     tally(corners)

@@ -6,17 +6,23 @@ use mathlib.Core.List.{List}
 use Prim.Native.Nat.{ℕ, _+_, _*_, _≤_, _<_}
 use lib.ListN.{length}
 use Rattle.ground.specs.Outcome.{Outcome, given, unless}
+use Rattle.ground.specs.Ground.{rowsOf}
 use Rattle.ground.specs.Place.{wordsOf, AtEach}
 use Rattle.ground.specs.declared.Ground.{Ground}
 use Rattle.index.specs.Bytes.{indexBytes}
-use Rattle.index.specs.Index.{highest, indexPasses}
+use Rattle.index.specs.Index.{highest, highestPasses, indexPasses}
+use Rattle.terrain.specs.Check.{terrainOf}
 use Rattle.terrain.specs.Record.{entry}
 use Rattle.terrain.specs.declared.check.Terrain.{Terrain}
 use Rattle.terrain.specs.declared.record.Taken.{Taken}
 
--- the last step of the check, on the ground that a file is opened with: refusal 3, else the file's ground and M
-unfoldable pub checkedOn : List ℕ → Ground → Outcome Terrain
-checkedOn file g = unless (not (indexPasses file (g .rows))) 3 (given (record { ground = g; highest = highest file }))
+-- the last step of opening a file, on the ground of its base and zone: refusal 3 for M outside its range, else the file's ground and M
+unfoldable pub openedOn : List ℕ → Ground → Outcome Terrain
+openedOn file g = unless (not (highestPasses file)) 3 (given (terrainOf g (highest file)))
+
+-- the last step of the check, of a file that was opened: refusal 3, else what is known of it
+unfoldable pub checkedOn : List ℕ → Terrain → Outcome Terrain
+checkedOn file t = unless (not (indexPasses file (rowsOf (t .ground)))) 3 (given t)
 
 -- the index lies in the file, and n is the number of a position of it, or 0
 abbrev pub InIndex : List ℕ → ℕ → Type 0

@@ -12,14 +12,14 @@ use Rattle.ground.specs.Seam.{allowed}
 use Rattle.ground.specs.declared.point.Point.{Point}
 use Rattle.ground.specs.declared.place.Place.{Place}
 use Rattle.index.specs.Bytes.{recordStart, recordBytes, Part}
-use Rattle.index.specs.Index.{position}
+use Rattle.index.specs.Index.{position, isRecord}
 use Rattle.terrain.specs.Check.{checked}
 use Rattle.terrain.specs.declared.check.Terrain.{Terrain}
 use Rattle.terrain.specs.declared.record.Taken.{Taken}
 use Rattle.terrain.specs.declared.record.Sought.{Sought}
 use Rattle.terrain.specs.declared.record.Sought.the-variants.{From, Refused}
 
--- what the index says of rectangle n: the number of its record, or 0. Rectangle 0 has no position and is never covered
+-- what the index says of rectangle n: the number in its position, in a checked file that of its record or 0. Rectangle 0 has no position and is never covered
 unfoldable pub entry : List ℕ → ℕ → ℕ
 entry file n = cond (eqb n 0) 0 (position file n)
 
@@ -53,9 +53,13 @@ rectangleOf t = number (t .place .rectangle)
 abbrev pub Uncovered : List ℕ → Place → Type 0
 Uncovered file s = (t : Taken) → taken file s ≡ given t → ⊥
 
--- a point of a checked file: 4 and 5 in that order, else the record that it is read from
+-- a point of a file that was opened: 4 and 5 in that order, else the record that the index names for it; of a checked file, the one that it is read from
 unfoldable pub recordIn : List ℕ → Terrain → Point → Outcome Taken
 recordIn file t p = located (t .ground) p andThen taken file
+
+-- the record taken, if the entry that it was taken by is that of a record, 7 to M; else refusal 3. A number in the index is not a record.
+abbrev pub vouched : (M : ℕ) → Taken → Outcome Taken
+vouched M t = unless (not (isRecord (t .entry) M)) 3 (given t)
 
 -- 1, 2, 3 for the file, then the record in it
 unfoldable pub recordFor : List ℕ → ℕ → ℕ → Point → Outcome Taken

@@ -1,22 +1,23 @@
 -- What it means that a base and a zone are named, that a ground was opened, and that a ground holds a point, as facts about the numbers; and
 -- that a ground holds exactly the metres that document 01 says. From the laws of the boundaries and of outcomes. Assumes nothing.
-use mathlib.Core.Path.{_≡_}
+use mathlib.Core.Path.{_≡_, refl}
 use mathlib.Core.Logic.{_↔_}
 use mathlib.Core.Bool.{true, not, _&&_, and-eq-true-iff}
 use Prim.Native.Nat.{ℕ, _*_, _≤_, _<_}
+use native.Mathlib.Nat.{le-of-lt}
 use native.Mathlib.Omega.{arith}
 use lib.Dec.{leb, ltb, eqb}
 use borrow.Author.Tests.{leb-true, ltb-true, eqb-true, le-leb, lt-ltb, eq-eqb, not-false}
 use Rattle.ground.specs.Measure.{inUnits}
-use Rattle.ground.specs.Boundary.{isBase, isZone, named}
+use Rattle.ground.specs.Boundary.{isBase, isZone, named, rows}
 use Rattle.ground.specs.Outcome.{given}
-use Rattle.ground.specs.Ground.{groundOf, opened, openedMeans, onGround, holds}
+use Rattle.ground.specs.Ground.{groundOf, rowsOf, opened, openedMeans, onGround, holds}
 use Rattle.ground.specs.declared.point.Point.{Point}
 use Rattle.ground.specs.declared.Ground.{Ground}
 use Rattle.ground.specs.declared.Opened.{Opened}
 use Rattle.ground.specs.declared.Opened.the-variants.{On, Refused}
 use Rattle.ground.proofs.Laws.Outcome.{past}
-use Rattle.ground.proofs.Laws.Boundary.{base-at, rows-28-29}
+use Rattle.ground.proofs.Laws.Boundary.{base-at, rows-28-29, rising}
 
 -- a base and a zone that are named
 pub record Named (b z : ℕ) : Type 0 where
@@ -44,7 +45,13 @@ named-is b z h =
 pub record IsOpened (b z : ℕ) (g : Ground) : Type 0 where
   pub named : Named b z
   pub is : g ≡ groundOf b z
-  pub rows : (28 ≤ g .rows) × (g .rows ≤ 29)
+  pub rising : g .south .0 ≤ g .north .0
+  pub rows : (28 ≤ rowsOf g) × (rowsOf g ≤ 29)
+
+-- the rows of the ground of base b are those of document 01
+pub rows-are : (b z : ℕ) → rowsOf (groundOf b z) ≡ rows b
+unfolding rows
+rows-are b z = refl
 
 -- a ground that was opened is what `IsOpened` says
 pub opened-is : (b z : ℕ) (g : Ground) → opened b z ≡ given g → IsOpened b z g
@@ -52,7 +59,7 @@ opened-is b z g e =
     let t = past (not (named b z)) 2 (given (groundOf b z)) g e in
     let n = named-is b z (not-false _ (t .0)) in
     let i : g ≡ groundOf b z = cc in
-    record { named = n; is = i; rows = rw i (rows-28-29 b (n .base)) }
+    record { named = n; is = i; rising = rw i (le-of-lt (rising (omega arith))); rows = rw (i, rows-are b z) (rows-28-29 b (n .base)) }
 
 -- two answers that mean the same are the same
 pub opened-once : (r s : Opened) → openedMeans r ≡ openedMeans s → r ≡ s

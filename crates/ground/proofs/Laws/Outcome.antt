@@ -30,6 +30,21 @@ pub step : {A B : Type 0} (o : Outcome A) (f : A → Outcome B) (b : B) → (o a
 step (given a) f b e = record { value = a; gave = refl; then = e }
 step (refused number place) f b e = absurd (not-both e)
 
+-- a step is followed by one that changes no value that it gives
+pub unchanged : {A : Type 0} (o : Outcome A) {f : A → Outcome A} → ((a : A) → o ≡ given a → f a ≡ given a) → (o andThen f) ≡ o
+unchanged (given a) same = same a refl
+unchanged (refused number place) same = refl
+
+-- a step is followed by what is the same for each value that it gives
+pub same-steps : {A B : Type 0} (o : Outcome A) {f g : A → Outcome B} → ((a : A) → o ≡ given a → f a ≡ g a) → (o andThen f) ≡ (o andThen g)
+same-steps (given a) same = same a refl
+same-steps (refused number place) same = refl
+
+-- past a test what follows is the same
+pub same-past : {A : Type 0} (t : Bool) (number : ℕ) {o q : Outcome A} → (t ≡ false → o ≡ q) → unless t number o ≡ unless t number q
+same-past true number same = refl
+same-past false number same = same refl
+
 -- steps may be taken together
 pub assoc : {A B C : Type 0} (o : Outcome A) (f : A → Outcome B) (g : B → Outcome C) → (o andThen f andThen g) ≡ (o andThen λ a. f a andThen g)
 assoc (given a) f g = refl

@@ -1,14 +1,15 @@
 -- What marking a number tells: one from 7 to M that had no mark passes, and so do four one after the other. From the laws of the walk over the index.
 -- Assumes nothing.
-use mathlib.Core.Path.{_≡_, sym, _∙_, ap}
-use mathlib.Core.Bool.{Bool, true, false, not, _&&_, and-eq-true-iff, false≢true}
+use mathlib.Core.Path.{_≡_, sym, _∙_}
+use mathlib.Core.Bool.{Bool, true, false, not, and-eq-true-iff, false≢true}
 use mathlib.Core.List.{List}
 use Prim.Native.Nat.{ℕ, _+_, _≤_}
 use native.Mathlib.Omega.{arith}
 use lib.Dec.{eqb}
 use lib.ListN.{getD, set}
 use borrow.Author.Tests.{eqb-true, eqb-false, not-true, not-false}
-use Rattle.index.specs.Inside.{isRecord, Walked, FourAre, Marking, RecordAt, FourRecords, NumberAt, FourAt}
+use Rattle.index.specs.Index.{isRecord}
+use Rattle.index.specs.Inside.{Walked, FourAre, Marking, RecordAt, FourRecords, NumberAt, FourAt}
 use Rattle.index.specs.declared.marks.Four.{Four}
 use Rattle.index.proofs.Laws.Walk.{walk-zero, walk-one, entries-fail, marked-fails, stray-fails, from-7-to-M}
 

@@ -9,7 +9,7 @@ use native.Mathlib.Omega.{arith}
 use lib.Dec.{leb, eqb}
 use borrow.Author.Tests.{le-leb, eq-eqb, ne-eqb, eqb-true, eqb-false, leb-true, not-true}
 use Rattle.index.specs.Bytes.{records, wholeRecords}
-use Rattle.index.specs.Index.{position, highest, highestPasses, fresh, entryPasses, entriesPass, restEmpty, indexPasses, Passes}
+use Rattle.index.specs.Index.{position, highest, highestPasses, HighestIn, isRecord, fresh, entryPasses, entriesPass, restEmpty, indexPasses, Passes}
 use Rattle.ground.proofs.Laws.Every.{holds, holds-at}
 use Rattle.index.proofs.Laws.Bytes.{whole-is, is-whole}
 
@@ -28,7 +28,7 @@ entry-is file M n h = go (eqb (position file n) 0) refl
     go true e = inl (eqb-true _ _ e)
     go false e =
         let r = position file n in
-        let s = and-eq-true-iff (leb 7 r && leb r M) (fresh file n r) .0 (rw e at h) in
+        let s = and-eq-true-iff (isRecord r M) (fresh file n r) .0 (rw e at h) in
         let b = and-eq-true-iff (leb 7 r) (leb r M) .0 (s .0) in
         inr (record {
           least = leb-true 7 r (b .0);
@@ -49,12 +49,15 @@ entry-passes file M n (inr e) =
       holds (λ k. not (eqb (position file k) r)) 1 n λ m l u. simp (ne-eqb _ _ (e .new m l u)),
     )
 
--- what the test of M means
-pub highest-is : (file : List ℕ) → highestPasses file ≡ true → (6 ≤ highest file) × (highest file ≤ records file)
+-- the test of M holds exactly if M is in its range
+pub highest-is : (file : List ℕ) → (highestPasses file ≡ true) ↔ HighestIn file
 unfolding highestPasses
-highest-is file h =
-    let t = and-eq-true-iff (leb 6 (highest file)) (leb (highest file) (records file)) .0 h in
-    (leb-true _ _ (t .0), leb-true _ _ (t .1))
+highest-is file = (
+  (λ h.
+      let t = and-eq-true-iff (leb 6 (highest file)) (leb (highest file) (records file)) .0 h in
+      record { least = leb-true _ _ (t .0); most = leb-true _ _ (t .1) }),
+  λ m. simp (le-leb _ _ (m .least), le-leb _ _ (m .most)),
+)
 
 -- what the tests of the index mean
 pub passing : (file : List ℕ) (rows : ℕ) → wholeRecords file ≡ true → indexPasses file rows ≡ true → Passes file rows
@@ -63,13 +66,13 @@ passing file rows w h =
     let M = highest file in
     let t = and-eq-true-iff (highestPasses file) (entriesPass file M (100 * rows) && restEmpty file (100 * rows)) .0 h in
     let s = and-eq-true-iff (entriesPass file M (100 * rows)) (restEmpty file (100 * rows)) .0 (t .1) in
-    let m = highest-is file (t .0) in
+    let m = highest-is file .0 (t .0) in
     let at : (n : ℕ) → 1 ≤ n → n < 100 * rows → (position file n ≡ 0) ⊎ NewNumber file M n =
     λ n a b. entry-is file M n (holds-at (entryPasses file M) 1 (100 * rows) (s .0) n a b) in
     record {
       whole = whole-is file w;
-      lowestM = m .0;
-      highestM = m .1;
+      lowestM = m .least;
+      highestM = m .most;
       entries = λ n a b. ⊎-elim inl (λ e. inr (e .least, e .most)) (at n a b);
       once = λ k n a b u e. ⊎-elim (λ z. z) (λ y. absurd (y .new k a b e)) (at n (omega arith) u);
       rest = λ n a b. eqb-true _ _ (holds-at (λ k. eqb (position file k) 0) (100 * rows) 3072 (s .1) n a (omega arith));

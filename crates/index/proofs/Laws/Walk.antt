@@ -12,8 +12,8 @@ use lib.Seq.{getD-set-same, getD-set-other}
 use borrow.Author.Count.{below-more}
 use borrow.Author.Tests.{le-leb, eq-eqb, ne-eqb, eqb-true, eqb-false, leb-true, not-true, not-false}
 use Rattle.ground.proofs.Laws.Every.{next, skip, none, holds, fails-at}
-use Rattle.index.specs.Index.{position, fresh, entryPasses, entriesPass, restEmpty}
-use Rattle.index.specs.Inside.{isRecord, Walked, Skipped, NextEntry}
+use Rattle.index.specs.Index.{position, isRecord, fresh, entryPasses, entriesPass, restEmpty}
+use Rattle.index.specs.Inside.{Walked, Skipped, NextEntry}
 
 -- one empty position more
 pub skip-one : (file : List ℕ) (from end n m : ℕ) → Skipped file from end n → n < end → position file n ≡ 0 → m ≡ n + 1 → Skipped file from end m

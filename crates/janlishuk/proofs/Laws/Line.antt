@@ -95,3 +95,8 @@ some-of {A} {ls} {o} i = ((λ none. holds ls (i .refuses) none), λ s a e. fails
     fails (l ∷ ks) (inl g) s a e = not-both (sym (g .1 .0) ∙ e)
     fails (l ∷ ks) (inr g) (inl c) a e = g .0 c
     fails (l ∷ ks) (inr g) (inr s) a e = fails ks (g .1) s a e
+
+-- a first line whose condition is said in other words, and lines after it that are
+pub in-words : {C D E R S : Type 0} → C ↔ D → (R → S) → (C × E) ⊎ ((C → ⊥) × R) → (D × E) ⊎ ((D → ⊥) × S)
+in-words same rest (inl h) = inl (same .0 (h .0), h .1)
+in-words same rest (inr h) = inr ((λ d. h .0 (same .1 d)), rest (h .1))

@@ -9,12 +9,13 @@ use native.Mathlib.Decide.{decLe}
 use native.Mathlib.Omega.{arith}
 use lib.Dec.{lit≤}
 use borrow.Author.Tests.{ltb-true, eqb-true, le-leb, le-ltb, lt-ltb, eq-eqb, not-true, not-false}
-use Rattle.ground.specs.Outcome.{Outcome, given, refused, unless, _andThen_}
+use Rattle.ground.specs.Outcome.{Outcome, given, unless, _andThen_}
 use Rattle.ground.specs.Measure.{metres, inUnits}
 use Rattle.ground.specs.Boundary.{yB, yEnd, rows, named, baseAt, baseOf}
 use Rattle.ground.specs.Name.{fileName}
 use Rattle.ground.specs.Ground.{groundOf, holds}
-use Rattle.ground.specs.Place.{placeOf, located}
+use Rattle.ground.specs.Place.{located}
+use Rattle.ground.specs.Seam.{allowed}
 use Rattle.ground.specs.declared.point.Point.{Point}
 use Rattle.ground.specs.declared.place.Place.{Place}
 use Rattle.ground.specs.declared.measure.Units.{Units}
@@ -23,17 +24,19 @@ use Rattle.ground.proofs.Laws.Test.{either}
 use Rattle.ground.proofs.Laws.Boundary.{base-at, base-none, base-next, base-own}
 use Rattle.ground.proofs.Laws.Ground.{named-is, held-in-metres}
 use Rattle.index.specs.Bytes.{wholeRecords}
-use Rattle.index.specs.Index.{indexPasses}
+use Rattle.index.specs.Index.{highestPasses, indexPasses}
 use Rattle.index.proofs.Laws.Bytes.{whole-is, is-whole}
-use Rattle.index.proofs.Laws.Passes.{passing, passes-is}
-use Rattle.terrain.specs.Check.{checked, Gave}
+use Rattle.index.proofs.Laws.Passes.{highest-is, passing, passes-is}
+use Rattle.terrain.specs.Check.{checked}
 use Rattle.terrain.specs.Record.{Uncovered, taken, recordIn, recordFor}
 use Rattle.terrain.specs.declared.check.Terrain.{Terrain}
 use Rattle.terrain.specs.declared.record.Taken.{Taken}
 use Rattle.terrain.proofs.Laws.Checked.{checked-is}
-use Rattle.terrain.proofs.Laws.Taken.{taken-or-5, taken-is, place-is}
+use Rattle.terrain.proofs.Laws.Taken.{taken-or-5, place-is}
 use Rattle.reading.specs.Reading.{readCorners, readTaken, pointIn, reading}
 use Rattle.reading.proofs.Laws.Reading.{some-lacks}
+use Rattle.spot.specs.Spot.{namesNoRecord, spot}
+use Rattle.spot.proofs.Laws.Spot.{no-record-is}
 use Rattle.survey.specs.Survey.{Lists, pointCount, unfit, withAnswers, answerOf, upload}
 use Rattle.survey.proofs.Laws.Lists.{unfit-is}
 use Rattle.path.specs.Path.{Q, N, asking, askMasts, pathOf, sample, farthest, overAsked, pathOn}
@@ -45,7 +48,7 @@ use Rattle.masts.specs.Plan.{planOf}
 use Rattle.masts.proofs.Laws.Plan.{planned}
 use Rattle.link.specs.Clear.{clear, verdict}
 use Rattle.plan.specs.Plan.{plan}
-use Rattle.janlishuk.specs.Order.{Line, IsNamed, OnGround, placed, ofFile, ofName, ofNorthing, ofRecord, ofPoint, ofEnds, ofMasts, ofRow, ofSamples, ofPairs, ofLink, ofUpload}
+use Rattle.janlishuk.specs.Order.{Line, IsNamed, OnGround, placed, ofFile, ofName, ofNorthing, ofRecord, ofPoint, ofEnds, ofMasts, ofRow, ofSamples, ofPairs, ofLink, ofSpot, ofUpload}
 use Rattle.janlishuk.proofs.Laws.Line.{InOrder, gave, tested, after, giving, met-at}
 
 -- the condition of 2
@@ -138,9 +141,7 @@ module _ (file : List ℕ) (b z : ℕ) (t : Terrain) (passed : checked file b z 
   unfolding pointIn readTaken readCorners
   point-order =
       after (readTaken file) record-order λ u e.
-      let at = taken-at u e in
-      let is = taken-is b z (checked-is file b z t passed .passes) p (at .0) u (at .1) in
-      where-so _ (some-lacks (at .1) is) 6 (lit≤ tt) λ n. gave _
+      where-so _ (some-lacks file (placed b z p) u (taken-at u e .1)) 6 (lit≤ tt) λ n. gave _
 
 module _ (file : List ℕ) (b z : ℕ) (p : Point) where
   -- a record is handed back in that order
@@ -152,6 +153,18 @@ module _ (file : List ℕ) (b z : ℕ) (p : Point) where
   pub reading-order : InOrder (ofFile file b z ++ ofPoint file b z 0 p) (reading file b z p)
   unfolding reading
   reading-order = after (λ t. pointIn file t p) (file-order file b z) λ t e. point-order file b z t e p
+
+  -- a spot is read in the order that document 02 gives it
+  pub spot-order : InOrder (ofSpot file b z p) (spot file b z p)
+  unfolding spot readTaken readCorners
+  spot-order =
+      without (wholeRecords file) (whole-is file, is-whole file) 1 (lit≤ tt) λ w.
+      without (named b z) (is-named b z) 2 (lit≤ tt) λ n.
+      without (highestPasses file) (highest-is file) 3 (lit≤ tt) λ h.
+      without (holds (groundOf b z) p) (on-ground b z p) 4 (lit≤ tt) λ g.
+      where-so (namesNoRecord file (allowed (placed b z p))) (no-record-is file (placed b z p)) 3 (lit≤ tt) λ r.
+      after (readTaken file) (taken-order file (placed b z p)) λ u e.
+      where-so _ (some-lacks file (placed b z p) u e) 6 (lit≤ tt) λ k. gave _
 
 -- an upload is refused in the order 1, 2, 3, 10
 pub upload-order : (file : List ℕ) (b z : ℕ) (l : Lists) → InOrder (ofUpload file b z l) (upload file b z l)

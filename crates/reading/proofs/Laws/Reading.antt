@@ -1,14 +1,14 @@
 -- Demand 2, its first two sentences: in a file that passes the check, a point of the file's zone and on its ground is read exactly when a record is taken
 -- for it and no corner that weighs in lacks a height; and the reading is the exact four-corner mean of that record, within its weighing corners. From the
 -- laws of the record taken, of the corners and of the vote. Assumes nothing.
-use mathlib.Core.Path.{_≡_, sym, _∙_, subst}
+use mathlib.Core.Path.{_≡_, sym, _∙_, ap, subst}
 use mathlib.Core.Logic.{_↔_}
 use mathlib.Core.Bool.{true, false}
 use mathlib.Core.List.{List}
-use Prim.Native.Nat.{ℕ, _+_, _*_, _≤_, _<_}
+use Prim.Native.Nat.{ℕ, _+_, _≤_}
 use native.Mathlib.Omega.{arith}
 use borrow.Author.Tests.{eqb-true, eq-eqb}
-use Rattle.ground.specs.Outcome.{given, _andThen_}
+use Rattle.ground.specs.Outcome.{Outcome, given, _andThen_}
 use Rattle.ground.specs.Boundary.{rows}
 use Rattle.ground.specs.Ground.{groundOf, holds}
 use Rattle.ground.specs.Place.{wordsOf, placeOf, located, AtEach}
@@ -22,15 +22,16 @@ use Rattle.ground.proofs.Laws.Place.{each}
 use Rattle.index.specs.Bytes.{nth, recordBytes}
 use Rattle.index.proofs.Laws.Bytes.{record-long}
 use Rattle.terrain.specs.Check.{checked, Gave}
-use Rattle.terrain.specs.Record.{taken, rectangleOf, recordIn, recordFor}
+use Rattle.terrain.specs.Record.{entry, taken, rectangleOf, recordIn, recordFor}
+use Rattle.terrain.specs.Inside.{Reaches}
 use Rattle.terrain.specs.Word.{wordOf}
 use Rattle.terrain.specs.declared.check.Terrain.{Terrain}
 use Rattle.terrain.specs.declared.record.Taken.{Taken}
 use Rattle.terrain.proofs.Laws.Checked.{checked-is, gave-is, own}
-use Rattle.terrain.proofs.Laws.Taken.{IsTaken, taken-holds, taken-is, place-is}
+use Rattle.terrain.proofs.Laws.Taken.{IsTaken, taken-holds, taken-entry, taken-is, place-is, all-vouched}
 use Rattle.reading.specs.Corner.{corner, cornersAt, cornersOf, anyLacksHeight, exactHeight, mostHeight}
 use Rattle.reading.specs.Vote.{sumFor, vote}
-use Rattle.reading.specs.Reading.{readCorners, readTaken, pointIn, reading}
+use Rattle.reading.specs.Reading.{readCorners, readTaken, spotIn, pointIn, reading}
 use Rattle.reading.specs.Demand.{HasHeight, LiesBetween, mean, codeSum, Readable, SomeLacks, Mean, IsMean}
 use Rattle.reading.specs.Inside.{EachCorner}
 use Rattle.reading.specs.declared.corner.Corner.{Corner}
@@ -80,26 +81,55 @@ module _ (bytes : List ℕ) (w : Words) (weights : Weights) where
 abbrev readingOf : Corners → Reading
 readingOf c = record { height = exactHeight c; code = vote c }
 
-module _ {file : List ℕ} {rows : ℕ} {t : Taken} (is : IsTaken file rows t) where
+-- A record t that is taken by the entry of its rectangle:
+module _ (file : List ℕ) (t : Taken) (is : t .entry ≡ entry file (rectangleOf t)) where
   -- each corner that weighs in has a height in the record exactly if it has one in the rectangle
   heights-of : AtEach (HasHeight (nth (recordBytes file (t .entry)))) (wordsOf (t .place)) (t .place .weights)
       ↔ AtEach (HasHeight (wordOf file (rectangleOf t))) (wordsOf (t .place)) (t .place .weights)
-  heights-of = ((λ a. rw (is .entry) at a), λ a. rw (is .entry) a)
+  heights-of = ((λ a. rw is at a), λ a. rw is a)
+
+  -- the reading of its corners, where the record reaches as far as those that weigh in and none lacks a height, is the mean
+  pub mean-of : Reaches file t → (r : Reading) → readTaken file t ≡ given r → Mean file t r
+  unfolding readTaken readCorners
+  mean-of reaches r e =
+      let k = cornersOf file t in
+      let q = past (anyLacksHeight k) 6 (given (readingOf k)) r e in
+      let i : readingOf k ≡ r = cc (q .1) in
+      let bytes = recordBytes file (t .entry) in
+      let w = wordsOf (t .place) in
+      let weights = t .place .weights in
+      let between = mean-within bytes w weights in
+      let heights = heights-are bytes w weights .0 (q .0) in
+      subst (λ (x : Reading). Mean file t x) i (record {
+        height = rw (← is) (mean-is bytes w weights);
+        named = is;
+        past = reaches .past;
+        long = record-long file (t .entry) (omega (arith, reaches .past)) (reaches .recorded);
+        corners = each (λ x f l. (f .0, f .1 l)) (reaches .words);
+        within = λ lo hi a. let x = between lo hi (reaches .all) (rw (← is) at a) in (x .least, x .most);
+        most = between 0 8190 (reaches .all) (each (λ x f l. omega (arith, f l)) heights) .most;
+        code = greatest-by (λ n l. rw (← is) (sum-is bytes w weights n)) (vote-is (cornersOf file t));
+      })
 
 -- a corner lacks a height, in the record taken, exactly if some weighing corner of the rectangle has none
-pub some-lacks : {file : List ℕ} {rows : ℕ} {s : Place} {t : Taken} → taken file s ≡ given t → IsTaken file rows t
-    → (anyLacksHeight (cornersOf file t) ≡ true) ↔ SomeLacks file s
+pub some-lacks : (file : List ℕ) (s : Place) (t : Taken) → taken file s ≡ given t → (anyLacksHeight (cornersOf file t) ≡ true) ↔ SomeLacks file s
 unfolding anyLacksHeight cornersAt
-some-lacks {file} {s = s} {t} e is =
+some-lacks file s t e =
+    let is = taken-entry file s t e in
     let w = wordsOf (t .place) in
     let k = t .place .weights in
     let at = corner-lacks (recordBytes file (t .entry)) in
     let any = either _ _ (either _ _ (at (w .sw) (k .sw)) (at (w .se) (k .se))) (either _ _ (at (w .nw) (k .nw)) (at (w .ne) (k .ne))) in (
-      (λ h. record { source = t; taken = e; lacks = rw (is .entry) at (any .0 h) }),
+      (λ h. record { source = t; taken = e; lacks = rw is at (any .0 h) }),
       λ l.
           let i : l .source ≡ t = cc (l .taken, e) in
-          any .1 (rw (is .entry) (rw i at (l .lacks))),
+          any .1 (rw is (rw i at (l .lacks))),
     )
+
+-- In a file that passes every entry but 0 names a record, so that its points are read as in a file that was only opened.
+pub point-is-spot : {file : List ℕ} {t : Terrain} → Gave file t → (p : Point) → spotIn file t p ≡ pointIn file t p
+unfolding spotIn pointIn
+point-is-spot {file} f p = ap (λ (o : Outcome Taken). o andThen readTaken file) (all-vouched f p)
 
 -- The reading takes its words from the record that `record_at` hands back.
 pub from-record : (file : List ℕ) (b z : ℕ) (p : Point) → reading file b z p ≡ (recordFor file b z p andThen readTaken file)
@@ -119,40 +149,18 @@ module _ (file : List ℕ) (b z : ℕ) (t : Terrain) (c : checked file b z ≡ g
   is-taken : (u : Taken) → taken file s ≡ given u → IsTaken file (rows b) u
   is-taken = taken-is b z (checked-is file b z t c .passes) p h
 
-  -- the reading of the corners in the record taken is the mean
-  mean-of : (u : Taken) → taken file s ≡ given u → anyLacksHeight (cornersOf file u) ≡ false → Mean file (rows b) u (readingOf (cornersOf file u))
-  mean-of u e lacks-none =
-      let is = is-taken u e in
-      let bytes = recordBytes file (u .entry) in
-      let w = wordsOf (u .place) in
-      let weights = u .place .weights in
-      let between = mean-within bytes w weights in
-      let heights = heights-are bytes w weights .0 lacks-none in
-      record {
-        height = rw (← is .entry) (mean-is bytes w weights);
-        named = is .entry;
-        past = is .reaches .past;
-        long = record-long file (u .entry) (omega (arith, is .reaches .past)) (is .reaches .recorded);
-        corners = each (λ x f l. (f .0, f .1 l)) (is .reaches .words);
-        own = λ m l covered same. own (checked-is file b z t c .passes) m (rectangleOf u) l (is .within) covered (is .covered) (same ∙ is .entry);
-        within = λ lo hi a. let x = between lo hi (is .reaches .all) (rw (← is .entry) at a) in (x .least, x .most);
-        most = between 0 8190 (is .reaches .all) (each (λ x f l. omega (arith, f l)) heights) .most;
-        code = greatest-by (λ n l. rw (← is .entry) (sum-is bytes w weights n)) (vote-is (cornersOf file u));
-      }
-
-  -- what it is read as is that mean
+  -- what it is read as is the mean of that record, which is its own
   pub read-mean : (r : Reading) → reading file b z p ≡ given r → IsMean file b z p r
-  unfolding readTaken readCorners
   read-mean r e =
       let v = step (taken file s) (readTaken file) r (sym at-place ∙ e) in
-      let k = cornersOf file (v .value) in
-      let q = past (anyLacksHeight k) 6 (given (readingOf k)) r (v .then) in
-      let i : readingOf k ≡ r = cc (q .1) in
+      let u = v .value in
+      let is = is-taken u (v .gave) in
       record {
-        source = v .value;
+        source = u;
         taken = v .gave;
-        holds = taken-holds file (groundOf b z) p h (v .value) (v .gave);
-        mean = subst (λ (x : Reading). Mean file (rows b) (v .value) x) i (mean-of (v .value) (v .gave) (q .0));
+        holds = taken-holds file (groundOf b z) p h u (v .gave);
+        mean = mean-of file u (is .entry) (is .reaches) r (v .then);
+        own = λ m l covered same. own (checked-is file b z t c .passes) m (rectangleOf u) l (is .within) covered (is .covered) (same ∙ is .entry);
       }
 
   -- it is read exactly when a record is taken for it and no corner that weighs in lacks a height
@@ -167,11 +175,11 @@ module _ (file : List ℕ) (b z : ℕ) (t : Terrain) (c : checked file b z ≡ g
         record {
           source = u;
           covered = v .gave;
-          heights = heights-of (is-taken u (v .gave)) .0 (heights-are _ (wordsOf (u .place)) (u .place .weights) .0 (q .0));
+          heights = heights-of file u (is-taken u (v .gave) .entry) .0 (heights-are _ (wordsOf (u .place)) (u .place .weights) .0 (q .0));
         }),
     λ y.
         let u = y .source in
-        let has = heights-are (recordBytes file (u .entry)) (wordsOf (u .place)) (u .place .weights) .1 (heights-of (is-taken u (y .covered)) .1 (y .heights)) in
+        let has = heights-are (recordBytes file (u .entry)) (wordsOf (u .place)) (u .place .weights) .1 (heights-of file u (is-taken u (y .covered) .entry) .1 (y .heights)) in
         (readingOf (cornersOf file u), at-place ∙ simp (y .covered, has)),
   )
 

@@ -11,12 +11,12 @@ use native.Mathlib.Omega.{arith}
 use lib.Dec.{eqb, eqb·suc-zero}
 use lib.ListN.{length, getD, set, replicate, length-set, getD-replicate}
 use lib.Seq.{getD-set-same, getD-set-other}
-use borrow.Author.Tests.{lt-ltb, le-ltb, eqb-true, eqb-false, eq-eqb, ne-eqb}
+use borrow.Author.Tests.{lt-ltb, le-ltb, ltb-true, eqb-true, eqb-false, eq-eqb}
 use Rattle.index.specs.Bytes.{nth}
 use Rattle.terrain.specs.Word.{codeOf}
 use Rattle.reading.specs.Corner.{corner}
 use Rattle.reading.specs.Vote.{weightFor, sumFor, greatest, Greatest, vote}
-use Rattle.reading.specs.Inside.{Weighed, alike}
+use Rattle.reading.specs.Inside.{Weighed, alike, outweighs}
 use Rattle.reading.specs.declared.corner.Corner.{Corner}
 use Rattle.reading.specs.declared.corner.Corners.{Corners}
 
@@ -149,30 +149,54 @@ pub counted-vote : {l : List ℕ} (c : Corners) → Counted l (c .ne ∷ c .nw �
 unfolding vote sumFor
 counted-vote {l} c g = greatest-only (greatest-by (λ code h. omega (arith, g .sums code h)) (greatest-is (λ code. getD l code 0) 7)) (vote-is c)
 
--- where the corners have one code
-module _ (c : Corners) (w : Weighed c) (h : alike c ≡ true) where
-  -- its sum is that of all weights, and the others' is 0
-  alike-sum : (code : ℕ) → sumFor c code ≡ cond (eqb (c .sw .code) code) 250000 0
+-- a corner weighs for two codes together at most its weight
+two-codes : (c : Corner) (j k : ℕ) → (j ≡ k → ⊥) → weightFor j c + weightFor k c ≤ c .weight
+two-codes c j k apart = go (eqb (c .code) j) refl (eqb (c .code) k) refl
+  where
+    go : (s : Bool) → eqb (c .code) j ≡ s → (t : Bool) → eqb (c .code) k ≡ t → cond s (c .weight) 0 + cond t (c .weight) 0 ≤ c .weight
+    go true d true e = absurd (apart (sym (eqb-true _ _ d) ∙ eqb-true _ _ e))
+    go true d false e = omega arith
+    go false d t e = omega (arith, at-most t (c .weight))
+
+-- where the corners weigh 250,000 together
+module _ (c : Corners) (w : Weighed c) where
+  -- a code that has more than half of it is the vote
+  majority : (code : ℕ) → code ≤ 7 → 125000 < sumFor c code → code ≡ vote c
   unfolding sumFor
-  alike-sum code =
+  majority code within half =
+      greatest-only
+      (record { within = within; most = λ k l. not-more k (eqb code k) refl; tie = λ k l. less k (λ e. omega arith) })
+      (vote-is c)
+    where
+      less : (k : ℕ) → (code ≡ k → ⊥) → sumFor c k < sumFor c code
+      less k apart =
+          omega (
+            arith,
+            w .all,
+            two-codes (c .sw) code k apart,
+            two-codes (c .se) code k apart,
+            two-codes (c .nw) code k apart,
+            two-codes (c .ne) code k apart,
+          )
+
+      not-more : (k : ℕ) (t : Bool) → eqb code k ≡ t → sumFor c k ≤ sumFor c code
+      not-more k true e = rw (eqb-true code k e) (le-refl _)
+      not-more k false e = omega (arith, less k (eqb-false code k e))
+
+  -- the vote of corners that have one code is that code
+  pub alike-vote : alike c ≡ true → c .sw .code ≡ vote c
+  unfolding sumFor
+  alike-vote h =
       let t = and-eq-true-iff _ _ .0 h in
       let s = and-eq-true-iff _ _ .0 (t .0) in
       let se = eqb-true (c .sw .code) (c .se .code) (s .0) in
       let ne = eqb-true (c .nw .code) (c .ne .code) (s .1) in
       let nw = eqb-true (c .sw .code) (c .nw .code) (t .1) in
-      rw (← ne, ← nw, ← se) (go (eqb (c .sw .code) code))
-    where
-      go : (b : Bool) → cond b (c .sw .weight) 0 + cond b (c .se .weight) 0 + cond b (c .nw .weight) 0 + cond b (c .ne .weight) 0 ≡ cond b 250000 0
-      go true = omega (arith, w .all)
-      go false = refl
+      majority (c .sw .code) (w .corners .sw .code) (rw (← ne, ← nw, ← se, eq-eqb (c .sw .code) (c .sw .code) refl) (omega (arith, w .all)))
 
-  -- the code of four corners that have one code is the vote
-  pub alike-vote : c .sw .code ≡ vote c
-  alike-vote =
-      let own = alike-sum (c .sw .code) in
-      let all = rw (eq-eqb (c .sw .code) (c .sw .code) refl) at own in
-      greatest-only (record {
-        within = w .corners .sw .code;
-        most = λ k l. omega (arith, all, alike-sum k, at-most (eqb (c .sw .code) k) 250000);
-        tie = λ k l. omega (arith, all, rw (ne-eqb (c .sw .code) k (λ e. omega arith)) at (alike-sum k));
-      }) (vote-is c)
+  -- the vote of corners of which the south-west one outweighs the others is its code
+  pub outweighing-vote : outweighs c ≡ true → c .sw .code ≡ vote c
+  unfolding sumFor
+  outweighing-vote h =
+      let more = ltb-true (c .se .weight + c .nw .weight + c .ne .weight) (c .sw .weight) h in
+      majority (c .sw .code) (w .corners .sw .code) (rw (eq-eqb (c .sw .code) (c .sw .code) refl) (omega (arith, w .all)))

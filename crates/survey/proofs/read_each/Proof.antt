@@ -5,8 +5,10 @@ use Prim.Native.Nat.{ℕ, _-_, _≤_, _<_}
 use native.Mathlib.Omega.{arith}
 use lib.ListN.{length}
 use borrow.Author.Needs.{needs}
+use Rattle.terrain.proofs.Laws.Checked.{gave-opens}
 use Rattle.reading.specs.Reading.{readAnswer}
 use Rattle.reading.specs.declared.point.ReadAnswer.{ReadAnswer}
+use Rattle.reading.proofs.Laws.Reading.{point-is-spot}
 use Rattle.survey.specs.Survey.{Lists, fiveLists, written, withAnswers}
 use Rattle.survey.specs.Inside.{HasEntry, answerIn}
 use Rattle.survey.proofs.Laws.Lists.{ListsFit, fits, AsLong, all-long, one-answer-more}
@@ -66,14 +68,17 @@ point-at-requires : tie.Need-point-at-requires Inv-loop μ-loop
 point-at-requires c κs = (own c, omega (arith, own c, fit c .sameLength))
 
 read-in-requires : tie.Need-read-in-requires Inv-loop μ-loop
-read-in-requires c κs = start (c .before) .pre .0
+read-in-requires c κs = gave-opens (start (c .before) .pre .0)
 
 -- the answer to the point is the one that the contract speaks of
 read : (c : tie.After-answer Inv-loop μ-loop) → (
     let at = c .before .before .before .before .before .before in
     c .answer .result ≡ answer at (i at)
     )
-read c = c .answer .ensures ∙ ap readAnswer (rw (c .before .before .before .before .before .point-at .ensures) at (c .before .before .before .before .read-in .ensures))
+read c =
+    let said = c .before .before .before .before in
+    c .answer .ensures
+    ∙ ap readAnswer ((rw (said .before .point-at .ensures) at (said .read-in .ensures)) ∙ point-is-spot (start (said .before .before) .pre .0) _)
 
 enter-requires : tie.Need-enter-requires Inv-loop μ-loop
 enter-requires c κs =

@@ -4,56 +4,111 @@ use mathlib.Core.Path.{_≡_, refl, sym, _∙_}
 use mathlib.Core.Bool.{Bool, true, false, not, false≢true}
 use mathlib.Core.List.{List}
 use mathlib.Core.Logic.{_↔_, _⊎_, inl, inr, ⊎-elim}
-use Prim.Native.Nat.{ℕ, zero, suc, _*_, _≤_, _<_}
+use Prim.Native.Nat.{ℕ, zero, suc, _-_, _*_, _≤_, _<_}
 use native.Mathlib.Decide.{decLt}
 use native.Mathlib.Omega.{arith}
 use lib.Dec.{eqb·suc-zero}
-use lib.ListN.{length}
-use borrow.Author.Tests.{eqb-false, not-true, not-false}
+use borrow.Author.Tests.{le-leb, eqb-false, not-true, not-false}
 use Rattle.ground.specs.Outcome.{given, unless, _andThen_}
 use Rattle.ground.specs.Boundary.{yEnd, rows, named}
-use Rattle.ground.specs.Ground.{groundOf, opened}
+use Rattle.ground.specs.Ground.{groundOf, rowsOf, opened}
 use Rattle.ground.proofs.Laws.Boundary as boundary
 use Rattle.ground.proofs.Laws.Outcome.{past, step}
-use Rattle.ground.proofs.Laws.Ground.{IsOpened, opened-is}
-use Rattle.index.specs.Bytes.{wholeRecords}
-use Rattle.index.specs.Index.{position, highest, indexPasses, Passes}
-use Rattle.index.proofs.Laws.Passes.{passing, passes-is}
-use Rattle.terrain.specs.Check.{checked, Gave}
+use Rattle.ground.proofs.Laws.Ground.{IsOpened, opened-is, rows-are}
+use Rattle.index.specs.Bytes.{mostRecords, wholeRecords, Whole}
+use Rattle.index.specs.Index.{position, highest, highestPasses, HighestIn, isRecord, indexPasses, Passes}
+use Rattle.index.proofs.Laws.Bytes.{whole-is, is-whole}
+use Rattle.index.proofs.Laws.Passes.{highest-is, passing, passes-is}
+use Rattle.terrain.specs.Check.{terrainOf, highestOf, openedFile, checked, Opens, Gave}
 use Rattle.terrain.specs.Record.{entry, covered}
-use Rattle.terrain.specs.Inside.{checkedOn}
+use Rattle.terrain.specs.Inside.{openedOn, checkedOn}
 use Rattle.terrain.specs.declared.check.Terrain.{Terrain}
+
+-- a file that was opened with base b and zone z: its ground was, its length is that of whole records, M is in its range, and M is position 3072's number
+pub record IsOpenFile (file : List ℕ) (b z : ℕ) (t : Terrain) : Type 0 where
+  pub opened : IsOpened b z (t .ground)
+  pub whole : Whole file
+  pub range : HighestIn file
+  pub highest : highestOf t ≡ highest file
+
+-- opening a file in two steps: its ground is opened, and then M is tested
+pub opened-steps : (file : List ℕ) (b z : ℕ) → openedFile file b z ≡ unless (not (wholeRecords file)) 1 (opened b z andThen openedOn file)
+unfolding openedFile openedOn
+opened-steps file b z = go (named b z) refl
+  where
+    go : (t : Bool) → named b z ≡ t → openedFile file b z ≡ unless (not (wholeRecords file)) 1 (opened b z andThen openedOn file)
+    go true n = simp n
+    go false n = simp n
+
+-- the file that was opened
+pub opened-file-is : (file : List ℕ) (b z : ℕ) (t : Terrain) → openedFile file b z ≡ given t → IsOpenFile file b z t
+unfolding openedOn
+opened-file-is file b z t e =
+    let w = past (not (wholeRecords file)) 1 (opened b z andThen openedOn file) t (sym (opened-steps file b z) ∙ e) in
+    let s = step (opened b z) (openedOn file) t (w .1) in
+    let g = s .value in
+    let p = past (not (highestPasses file)) 3 (given (terrainOf g (highest file))) t (s .then) in
+    let i : t ≡ terrainOf g (highest file) = cc (p .1) in
+    rw i (record {
+      opened = opened-is b z g (s .gave);
+      whole = whole-is file (not-false _ (w .0));
+      range = highest-is file .0 (not-false _ (p .0));
+      highest = omega (arith, highest-is file .0 (not-false _ (p .0)) .least);
+    })
+
+-- the file that was opened, where a function was handed it as open
+pub opens-is : {file : List ℕ} {t : Terrain} (f : Opens file t) → IsOpenFile file (f .base) (f .zone) t
+opens-is f = opened-file-is _ _ _ _ (f .gave)
+
+-- the records from 7 to M of a file that was opened are no more than a file may have
+pub past-most : {file : List ℕ} {t : Terrain} → Opens file t → t .past ≤ mostRecords
+past-most f = let o = opens-is f in omega (arith, o .highest, o .range, o .whole)
+
+-- the check in two steps: the file is opened, and then its index is checked
+pub checked-steps : (file : List ℕ) (b z : ℕ) → checked file b z ≡ (openedFile file b z andThen checkedOn file)
+unfolding rows openedFile checked checkedOn indexPasses
+checked-steps file b z = go (wholeRecords file) (named b z) (highestPasses file) refl refl refl
+  where
+    go : (w n h : Bool) → wholeRecords file ≡ w → named b z ≡ n → highestPasses file ≡ h → checked file b z ≡ (openedFile file b z andThen checkedOn file)
+    go false n h e f g = simp e
+    go true false h e f g = simp (e, f)
+    go true true false e f g = simp (e, f, g)
+    go true true true e f g = simp (e, f, g)
+
+-- a file that passed was opened, and its index passed
+pub checked-opens : (file : List ℕ) (b z : ℕ) (t : Terrain) → checked file b z ≡ given t
+    → (openedFile file b z ≡ given t) × (indexPasses file (rowsOf (t .ground)) ≡ true)
+unfolding checkedOn
+checked-opens file b z t e =
+    let s = step (openedFile file b z) (checkedOn file) t (sym (checked-steps file b z) ∙ e) in
+    let p = past (not (indexPasses file (rowsOf (s .value .ground)))) 3 (given (s .value)) t (s .then) in
+    let i : s .value ≡ t = cc (p .1) in
+    (rw i at (s .gave), rw i at (not-false (indexPasses file (rowsOf (s .value .ground))) (p .0)))
 
 -- what the check gave for the file of base b and zone z: its ground was opened, it keeps the rules, and M is position 3072's number
 pub record IsChecked (file : List ℕ) (b z : ℕ) (t : Terrain) : Type 0 where
   pub opened : IsOpened b z (t .ground)
   pub passes : Passes file (rows b)
-  pub highest : t .highest ≡ highest file
-
--- the check in two steps: the file is opened, and then checked on its ground
-pub checked-steps : (file : List ℕ) (b z : ℕ) → checked file b z ≡ unless (not (wholeRecords file)) 1 (opened b z andThen checkedOn file)
-unfolding checked checkedOn
-checked-steps file b z = go (named b z) refl
-  where
-    go : (t : Bool) → named b z ≡ t → checked file b z ≡ unless (not (wholeRecords file)) 1 (opened b z andThen checkedOn file)
-    go true n = simp n
-    go false n = simp n
+  pub highest : highestOf t ≡ highest file
 
 -- the file that passed
 pub checked-is : (file : List ℕ) (b z : ℕ) (t : Terrain) → checked file b z ≡ given t → IsChecked file b z t
-unfolding checkedOn
 checked-is file b z t e =
-    let w = past (not (wholeRecords file)) 1 (opened b z andThen checkedOn file) t (sym (checked-steps file b z) ∙ e) in
-    let s = step (opened b z) (checkedOn file) t (w .1) in
-    let g = s .value in
-    let o = opened-is b z g (s .gave) in
-    let p = past (not (indexPasses file (g .rows))) 3 (given (record { ground = g; highest = highest file })) t (s .then) in
-    let i : t ≡ record { ground = g; highest = highest file } = cc (p .1) in
-    rw i (record { opened = o; passes = rw (o .is) at (passing file (g .rows) (not-false _ (w .0)) (not-false _ (p .0))); highest = refl })
+    let k = checked-opens file b z t e in
+    let o = opened-file-is file b z t (k .0) in
+    record {
+      opened = o .opened;
+      passes = passing file (rows b) (is-whole file (o .whole)) (rw (o .opened .is, rows-are b z) at (k .1));
+      highest = o .highest;
+    }
 
 -- the file that passed, where a function was handed it as checked
 pub gave-is : {file : List ℕ} {t : Terrain} (f : Gave file t) → IsChecked file (f .base) (f .zone) t
 gave-is f = checked-is _ _ _ _ (f .gave)
+
+-- a file that passed was opened
+pub gave-opens : {file : List ℕ} {t : Terrain} → Gave file t → Opens file t
+gave-opens f = record { base = f .base; zone = f .zone; gave = checked-opens _ _ _ _ (f .gave) .0 }
 
 -- no file ends north of the last one
 pub north-most : {file : List ℕ} {t : Terrain} → Gave file t → t .ground .north .0 ≤ yEnd
@@ -63,7 +118,7 @@ north-most f =
 
 -- a file that keeps the rules passes, with a base and a zone that are named
 pub check-passes : (file : List ℕ) (b z : ℕ) → named b z ≡ true → Passes file (rows b)
-    → checked file b z ≡ given (record { ground = groundOf b z; highest = highest file })
+    → checked file b z ≡ given (terrainOf (groundOf b z) (highest file))
 unfolding checked
 check-passes file b z n p =
     let t = passes-is file (rows b) .1 p in
@@ -80,7 +135,7 @@ pub record Covered (file : List ℕ) (n : ℕ) : Type 0 where
   pub some : position file n ≡ 0 → ⊥
 
 -- what the test for a covered rectangle means
-covered-is : (file : List ℕ) (n : ℕ) → covered file n ≡ true → Covered file n
+pub covered-is : (file : List ℕ) (n : ℕ) → covered file n ≡ true → Covered file n
 unfolding entry
 covered-is file zero c = absurd (false≢true c)
 covered-is file (suc n) c =
@@ -99,13 +154,10 @@ module _ {file : List ℕ} {rows : ℕ} (p : Passes file rows) where
   entry-is zero h = inl refl
   entry-is (suc n) h = rw eqb·suc-zero (p .entries (suc n) (omega arith) h)
 
-  -- the record of a covered rectangle is past the index
-  pub record-past : (n : ℕ) → n < 100 * rows → covered file n ≡ true → 7 ≤ entry file n
-  record-past n h c = ⊎-elim (λ z. absurd (eqb-false _ _ (not-true _ c) z)) (λ r. r .0) (entry-is n h)
-
-  -- the record that a rectangle's entry names lies in the file
-  pub record-in : (n : ℕ) → n < 100 * rows → 1024 * entry file n ≤ length file
-  record-in n h = ⊎-elim (λ z. omega arith) (λ r. omega arith) (entry-is n h)
+  -- the entry of a covered rectangle is a record's, from 7 to M
+  pub record-named : (n : ℕ) → n < 100 * rows → covered file n ≡ true → isRecord (entry file n) (highest file) ≡ true
+  record-named n h c =
+      ⊎-elim (λ z. absurd (eqb-false _ _ (not-true _ c) z)) (λ r. simp (le-leb _ _ (r .0), le-leb _ _ (r .1))) (entry-is n h)
 
   -- the record of a covered rectangle is that of no other
   pub own : (m n : ℕ) → m < 100 * rows → n < 100 * rows → covered file m ≡ true → covered file n ≡ true → entry file m ≡ entry file n → m ≡ n

@@ -4,10 +4,11 @@ use mathlib.Core.Path.{_≡_, refl, sym, _∙_, ap}
 use mathlib.Core.Bool.{Bool, true, false, not, cond}
 use mathlib.Core.List.{List, [], _∷_}
 use mathlib.Core.Logic.{_↔_, _⊎_, inl, inr, ⊎-elim}
-use Prim.Native.Nat.{ℕ, _*_, _<_}
+use Prim.Native.Nat.{ℕ, _*_, _≤_, _<_}
 use native.Mathlib.Omega.{arith}
+use lib.ListN.{length}
 use borrow.Author.Tests.{eqb-true, eqb-false, ne-eqb, not-true, not-false}
-use Rattle.ground.specs.Outcome.{given, refused, unless}
+use Rattle.ground.specs.Outcome.{given, refused, unless, _andThen_}
 use Rattle.ground.specs.Boundary.{rows}
 use Rattle.ground.specs.Ground.{groundOf, holds}
 use Rattle.ground.specs.Place.{number, placeOf, located}
@@ -16,16 +17,17 @@ use Rattle.ground.specs.declared.Ground.{Ground}
 use Rattle.ground.specs.declared.point.Point.{Point}
 use Rattle.ground.specs.declared.place.Place.{Place}
 use Rattle.ground.proofs.Laws.Boundary.{rows-28-29}
-use Rattle.ground.proofs.Laws.Outcome.{not-both, past, step}
+use Rattle.ground.proofs.Laws.Outcome.{not-both, past, step, unchanged}
 use Rattle.ground.proofs.Laws.Place.{lies, weighs}
 use Rattle.ground.proofs.Laws.Seam.{allowed-exactly, number-within, words-within}
-use Rattle.index.specs.Index.{Passes}
-use Rattle.terrain.specs.Check.{Gave}
-use Rattle.terrain.specs.Record.{entry, covered, recordAt, firstCovered, taken, takenBefore, rectangleOf, Uncovered, recordIn}
+use Rattle.index.specs.Index.{highest, isRecord, Passes}
+use Rattle.index.proofs.Laws.Walk.{from-7-to-M}
+use Rattle.terrain.specs.Check.{highestOf, Opens, Gave}
+use Rattle.terrain.specs.Record.{entry, covered, recordAt, firstCovered, taken, takenBefore, rectangleOf, Uncovered, recordIn, vouched}
 use Rattle.terrain.specs.Inside.{InIndex, entryWhere, Reaches}
 use Rattle.terrain.specs.declared.check.Terrain.{Terrain}
 use Rattle.terrain.specs.declared.record.Taken.{Taken}
-use Rattle.terrain.proofs.Laws.Checked.{gave-is, record-past, record-in}
+use Rattle.terrain.proofs.Laws.Checked.{opens-is, gave-is, record-named}
 
 -- a place that is tried, the test c holding, and whose rectangle is covered is taken
 pub covered-taken : (file : List ℕ) {c : Bool} (s : Place) (rest : List Place) → c ≡ true → (entry file (number (s .rectangle)) ≡ 0 → ⊥)
@@ -130,11 +132,28 @@ pub taken-holds : (file : List ℕ) (g : Ground) (p : Point) → holds g p ≡ t
     → GridHolds g p (t .place)
 taken-holds file g p h t e = allowed-exactly g p h (t .place) .0 (taken-first file (placeOf g p) t e .among)
 
+-- the entry that a record was taken by is that of its rectangle
+pub taken-entry : (file : List ℕ) (s : Place) (t : Taken) → taken file s ≡ given t → t .entry ≡ entry file (rectangleOf t)
+taken-entry file s t e = ap (λ (u : Taken). u .entry) (taken-first file s t e .is)
+
+-- the record taken for a point that the ground holds reaches as far as the corners that weigh in, if its number is that of a record of the file
+pub taken-reaches : {file : List ℕ} (g : Ground) (p : Point) → holds g p ≡ true → (t : Taken) → taken file (placeOf g p) ≡ given t
+    → 7 ≤ t .entry → 1024 * t .entry ≤ length file → Reaches file t
+taken-reaches {file} g p h t e past recorded =
+    let m = taken-holds file g p h t e in
+    record {
+      past = past;
+      recorded = recorded;
+      words = words-within m;
+      all = rw (m .weights) (weighs (t .place .fx) (t .place .fy) (omega (arith, m .fx)) (omega (arith, m .fy)) .all);
+    }
+
 -- a record that is taken in a file that passes: that of a covered rectangle of the file, past the index
 pub record IsTaken (file : List ℕ) (rows : ℕ) (t : Taken) : Type 0 where
   pub covered : covered file (rectangleOf t) ≡ true
   pub entry : t .entry ≡ entry file (rectangleOf t)
   pub within : rectangleOf t < 100 * rows
+  pub named : isRecord (t .entry) (highest file) ≡ true
   pub reaches : Reaches file t
 
 -- the record that is taken for a point that the ground holds
@@ -142,19 +161,16 @@ pub taken-is : {file : List ℕ} (b z : ℕ) → Passes file (rows b) → (p : P
     → taken file (placeOf (groundOf b z) p) ≡ given t → IsTaken file (rows b) t
 taken-is {file} b z passes p h t e =
     let first = taken-first file (placeOf (groundOf b z) p) t e in
-    let m = taken-holds file (groundOf b z) p h t e in
-    let within = number-within b z p h m in
-    let named : t .entry ≡ entry file (rectangleOf t) = ap (λ (u : Taken). u .entry) (first .is) in
+    let within = number-within b z p h (taken-holds file (groundOf b z) p h t e) in
+    let is = taken-entry file (placeOf (groundOf b z) p) t e in
+    let named = rw (← is) at (record-named passes (rectangleOf t) within (first .covered)) in
+    let r = from-7-to-M _ _ named in
     record {
       covered = first .covered;
-      entry = named;
+      entry = is;
       within = within;
-      reaches = record {
-        past = rw named (record-past passes (rectangleOf t) within (first .covered));
-        recorded = rw named (record-in passes (rectangleOf t) within);
-        words = words-within m;
-        all = rw (m .weights) (weighs (t .place .fx) (t .place .fy) (omega (arith, m .fx)) (omega (arith, m .fy)) .all);
-      };
+      named = named;
+      reaches = taken-reaches (groundOf b z) p h t e (r .0) (omega (arith, r .1, passes .highestM, passes .whole .multiple));
     }
 
 -- the place of a point that is located on a ground
@@ -175,11 +191,31 @@ record-is {file} {t} f p u e =
     let i = place-is (f .base) (f .zone) (c .opened .is) p (s .value) (s .gave) in
     taken-is (f .base) (f .zone) (c .passes) p (i .0) u (rw (i .1) at (s .then))
 
--- the index lies in a checked file, and has a position for the rectangle of a point that is located in it
-pub index-reaches : {file : List ℕ} {t : Terrain} → Gave file t → (p : Point) (s : Place) → located (t .ground) p ≡ given s
+-- in a file that passes, every record that is taken is one that its entry may name
+pub all-vouched : {file : List ℕ} {t : Terrain} → Gave file t → (p : Point) → (recordIn file t p andThen vouched (highestOf t)) ≡ recordIn file t p
+all-vouched {file} {t} f p = unchanged (recordIn file t p) λ u e. rw (gave-is f .highest, record-is f p u e .named)
+
+-- the record that a point of a file that was opened is read from reaches as far as the corners that weigh in
+pub vouched-reaches : {file : List ℕ} {t : Terrain} (f : Opens file t) (p : Point) (u : Taken)
+    → (recordIn file t p andThen vouched (highestOf t)) ≡ given u → Reaches file u
+unfolding recordIn
+vouched-reaches {file} {t} f p u e =
+    let c = opens-is f in
+    let v = step (recordIn file t p) (vouched (highestOf t)) u e in
+    let n = past (not (isRecord (v .value .entry) (highestOf t))) 3 (given (v .value)) u (v .then) in
+    let same : v .value ≡ u = cc (n .1) in
+    let s = step (located (t .ground) p) (taken file) (v .value) (v .gave) in
+    let i = place-is (f .base) (f .zone) (c .opened .is) p (s .value) (s .gave) in
+    let r = from-7-to-M _ _ (not-false _ (n .0)) in
+    rw same at
+    (taken-reaches (groundOf (f .base) (f .zone)) p (i .0) (v .value) (rw (i .1) at (s .then)) (r .0)
+    (omega (arith, r .1, c .highest, c .range, c .whole)))
+
+-- the index lies in a file that was opened, and has a position for the rectangle of a point that is located in it
+pub index-reaches : {file : List ℕ} {t : Terrain} → Opens file t → (p : Point) (s : Place) → located (t .ground) p ≡ given s
     → InIndex file (number (s .rectangle))
 index-reaches f p s e =
-    let c = gave-is f in
+    let c = opens-is f in
     let i = place-is (f .base) (f .zone) (c .opened .is) p s e in
     let g = groundOf (f .base) (f .zone) in
     let n = number-within (f .base) (f .zone) p (i .0) (lies g p (i .0) .grid) in

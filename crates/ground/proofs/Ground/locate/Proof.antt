@@ -2,6 +2,7 @@
 -- lies east and north of its corner. Assumes nothing.
 use mathlib.Core.Path.{_≡_}
 use mathlib.Core.Bool.{true}
+use Prim.Native.Nat.{ℕ, _-_, _/_, _%_}
 use native.Mathlib.Omega.{arith}
 use borrow.Author.Needs.{needs}
 use Rattle.ground.specs.Ground.{holds}
@@ -18,13 +19,13 @@ returns c = simp (fails (c .before .holds .ensures) (c .if1 .taken))
 on : (c : tie.Else1) → holds (c .before .before .args .self) (c .before .before .args .point) ≡ true
 on c = passes (c .before .holds .ensures) (c .if1 .left)
 
-sub-t9 : tie.Need-sub-t9
-sub-t9 c = rw (c .before .before .in-units .ensures) (omega (arith, held _ _ (on (c .before .before .before))))
+sub-t8 : tie.Need-sub-t8
+sub-t8 c = held _ _ (on (c .before)) .west
 
-sub-t9-2 : tie.Need-sub-t9-2
-sub-t9-2 c =
-    rw (c .before .before .before .in-units2 .ensures)
-    (held _ _ (on (c .before .before .before .before .before)) .south)
+sub-t8-2 : tie.Need-sub-t8-2
+sub-t8-2 c =
+    let y = c .before .before in
+    rw (y .in-units .ensures) (held _ _ (on (y .before .before)) .south)
 
 at-requires : tie.Need-at-requires
 at-requires c κs = rw (c .before .past-unit .ensures, c .past-unit2 .ensures) (omega arith)
@@ -32,17 +33,26 @@ at-requires c κs = rw (c .before .past-unit .ensures, c .past-unit2 .ensures) (
 returns-2 : tie.Need-returns-2
 unfolding placeOf
 returns-2 c =
-    let y = c .before .before .before .before .before .before in
+    let past = c .before in
+    let x = past .before .before in
+    let y = x .before .before .before in
+    let test = y .before .before in
+    let e : ℕ = test .before .before .args .point .easting .0 in
+    let west = held _ _ (on test) .west in
+    let whole : (e - 125000) / 500 ≡ e / 500 - 250 = omega (arith, west) in
+    let rest : (e - 125000) % 500 ≡ e % 500 = omega (arith, west) in
     simp (
-      on (y .before .before),
+      on test,
       c .at .ensures,
-      y .before .in-units .ensures,
-      y .in-units2 .ensures,
-      c .before .before .past-unit .ensures,
-      c .before .past-unit2 .ensures,
+      x .in-units2 .ensures,
+      y .in-units .ensures,
+      past .before .past-unit .ensures,
+      past .past-unit2 .ensures,
+      whole,
+      rest,
     )
 
 pub locate-spec : {M : Type 1} → statement M
 locate-spec =
     tie.close
-    (tie.spec (search needs) returns (search needs) (search needs) sub-t9 sub-t9-2 (search needs) (search needs) at-requires returns-2)
+    (tie.spec (search needs) returns sub-t8 (search needs) sub-t8-2 (search needs) (search needs) (search needs) at-requires returns-2)

@@ -1,13 +1,11 @@
--- `Ground::open` meets its contract: a base that is named is four times a number below 21, so its boundaries stand in the table, and
--- the northern one is above the southern. Assumes nothing.
+-- `Ground::open` meets its contract: a base that is named is four times a number below 21, so its boundaries stand in the table.
+-- Assumes nothing.
 use mathlib.Core.Path.{_≡_}
 use mathlib.Core.Bool.{true}
 use Prim.Native.Nat.{_*_, _/_, _<_}
-use native.Mathlib.Nat.{le-of-lt}
-use native.Mathlib.Omega.{arith}
 use borrow.Author.Needs.{needs}
-use Rattle.ground.specs.Boundary.{named, rows}
-use Rattle.ground.proofs.Laws.Boundary.{base-at, rising}
+use Rattle.ground.specs.Boundary.{named}
+use Rattle.ground.proofs.Laws.Boundary.{base-at}
 use Rattle.ground.proofs.Laws.Test.{passes, fails}
 use Rattle.ground.proofs.Laws.Ground.{named-is}
 use Rattle.ground.proofs.Ground.open.Statement.{statement}
@@ -26,14 +24,10 @@ fourth c = base-at _ (named-is _ _ (are-named c) .base)
 boundaries-requires : tie.Need-boundaries-requires
 boundaries-requires c κs = fourth c .0
 
-sub-t8 : tie.Need-sub-t8
-sub-t8 c = rw (c .before .before .before .before .boundaries .ensures) (le-of-lt (rising (omega arith)))
-
 returns-2 : tie.Need-returns-2
-unfolding rows
 returns-2 c =
-    let file = c .before .before .before .before in
+    let file = c .before .before in
     simp (file .boundaries .ensures, fourth (file .before) .1, are-named (file .before))
 
 pub open-spec : {M : Type 1} → statement M
-open-spec = tie.close (tie.spec (search needs) returns (search needs) boundaries-requires sub-t8 returns-2)
+open-spec = tie.close (tie.spec (search needs) returns (search needs) boundaries-requires returns-2)

@@ -1,6 +1,6 @@
 -- `walk` meets its contract. The loop's invariant: the samples before i were read, and are in their places. The measure is what is left of
 -- them. Assumes nothing.
-use mathlib.Core.Path.{_≡_, sym}
+use mathlib.Core.Path.{_≡_, sym, _∙_}
 use Prim.Native.Nat.{ℕ, _+_, _-_, _≤_, _<_}
 use native.Mathlib.Omega.{arith}
 use borrow.Author.Needs.{needs}
@@ -9,7 +9,8 @@ use Rattle.reading.specs.Reading.{pointIn, pointReadMeans}
 use Rattle.reading.specs.declared.point.Reading.{Reading}
 use Rattle.path.specs.Path.{sample}
 use Rattle.profile.specs.Profile.{linkOf, upTo, linkIn}
-use Rattle.reading.proofs.Laws.Reading.{read-within}
+use Rattle.terrain.proofs.Laws.Checked.{gave-opens}
+use Rattle.reading.proofs.Laws.Reading.{point-is-spot}
 use Rattle.profile.proofs.Laws.Profile.{one-more, one-refused}
 use Rattle.profile.proofs.samples.walk.Statement.{statement}
 use Rattle.profile.proofs.samples.walk.Tie as tie
@@ -29,7 +30,7 @@ said : (c : tie.After-read-in Inv-loop μ-loop) → (
     let at = c .before .before .before .before in
     pointReadMeans (c .read-in .result) ≡ reader (at .before .before) (at .loop .i)
     )
-said c = rw (c .before .sample .ensures) at (c .read-in .ensures)
+said c = (rw (c .before .sample .ensures) at (c .read-in .ensures)) ∙ point-is-spot (c .before .before .before .before .before .before .pre .0) _
 
 read : (c : tie.After-reading Inv-loop μ-loop) → (
     let at = c .before .before .before .before .before .before in
@@ -51,7 +52,7 @@ sample-requires : tie.Need-sample-requires Inv-loop μ-loop
 sample-requires c κs = (c .before .before .before .before .pre .1 .0, omega arith)
 
 read-in-requires : tie.Need-read-in-requires Inv-loop μ-loop
-read-in-requires c κs = c .before .before .before .before .before .pre .0
+read-in-requires c κs = gave-opens (c .before .before .before .before .before .pre .0)
 
 -- the sample has a place
 place : (c : tie.Then1 Inv-loop μ-loop) → c .before .before .loop .i < 201
@@ -60,14 +61,8 @@ place c = omega (arith, c .before .before .before .before .pre .1 .0 .most)
 element-write-heights : tie.Need-element-write-heights Inv-loop μ-loop
 element-write-heights c = place (c .before .before .before .before .before)
 
-cast-codes : tie.Need-cast-codes Inv-loop μ-loop
-cast-codes c =
-    let at = c .before .before .before .before .before .before .before .before in
-    let start = at .before .before in
-    omega (arith, read-within (sample (start .args .path) (at .loop .i)) (start .pre .0) (read (c .before .before)) .1)
-
 element-write-codes : tie.Need-element-write-codes Inv-loop μ-loop
-element-write-codes c = place (c .before .before .before .before .before .before)
+element-write-codes c = place (c .before .before .before .before .before)
 
 returns : tie.Need-returns Inv-loop μ-loop
 unfolding linkIn
@@ -76,12 +71,12 @@ returns c =
     simp (one-refused (reader (at .before .before)) (at .before .before .args .path .n) (omega arith) (at .loop .inv .1) (not-read (c .before)))
 
 add-i : tie.Need-add-i Inv-loop μ-loop
-add-i c = omega (arith, place (c .before .before .before .before .before .before))
+add-i c = omega (arith, place (c .before .before .before .before .before))
 
 loop-again : tie.Need-loop-again Inv-loop μ-loop
 loop-again c =
-    let at = c .before .before .before .before .before .before .before .before in
-    (omega arith, one-more (reader (at .before .before)) _ _ (at .loop .inv .1) (read (c .before .before)))
+    let at = c .before .before .before .before .before .before .before in
+    (omega arith, one-more (reader (at .before .before)) _ _ (at .loop .inv .1) (read (c .before)))
 
 returns-2 : tie.Need-returns-2 Inv-loop μ-loop
 unfolding linkIn
@@ -94,4 +89,4 @@ pub walk-spec : {M : Type 1} → statement M
 walk-spec =
     tie.close
     (tie.spec Inv-loop μ-loop loop-holds sample-requires read-in-requires (search needs) (search needs) (search needs) element-write-heights
-    cast-codes (search needs) element-write-codes (search needs) returns add-i (search needs) loop-again returns-2)
+    (search needs) element-write-codes (search needs) returns add-i (search needs) loop-again returns-2)

@@ -1,32 +1,34 @@
 -- `corner_at` meets its contract: its word is looked at where it weighs in, and has one of the eight codes as it fits 16 bits.
 -- Assumes nothing.
+use mathlib.Core.Path.{_≡_, refl}
+use mathlib.Core.List.{List}
+use Prim.Native.Nat.{ℕ, zero, suc}
 use native.Mathlib.Omega.{arith}
+use lib.Dec.{eqb·suc-zero}
 use borrow.Author.Needs.{needs}
-use borrow.Author.Tests.{eq-eqb, ne-eqb}
+use Rattle.terrain.specs.Word.{codeOf, elevationOf}
 use Rattle.reading.specs.Corner.{corner}
+use Rattle.reading.specs.Inside.{wordWhere}
 use Rattle.reading.proofs.corner.corner_at.Statement.{statement}
 use Rattle.reading.proofs.corner.corner_at.Tie as tie
 
+-- the corner is what the word that was looked at says; 0 says code 0 and elevation 0
+said : (bytes : List ℕ) (w weight : ℕ)
+    → record { weight = weight; code = codeOf (wordWhere bytes w weight); elevation = elevationOf (wordWhere bytes w weight) } ≡ corner bytes w weight
+unfolding corner
+said bytes w zero = refl
+said bytes w (suc n) = rw eqb·suc-zero
+
+word-at-requires : tie.Need-word-at-requires
+word-at-requires c κs = c .before .pre
+
 returns : tie.Need-returns
-unfolding corner
-returns c = record { is = rw (eq-eqb (c .before .before .args .weight) 0 (omega arith)); stored = omega arith }
-
-nth-requires : tie.Need-nth-requires
-nth-requires c κs = (search needs, c .before .before .pre .1 (omega arith))
-
-returns-2 : tie.Need-returns-2
-unfolding corner
-returns-2 c =
+returns c =
     let at = c .before .before in
     record {
-      is = rw (
-        ne-eqb (at .before .before .before .args .weight) 0 (omega arith),
-        c .before .code-of .ensures,
-        c .elevation-of .ensures,
-        at .nth .ensures,
-      );
-      stored = omega arith;
+      is = rw (c .before .code-of .ensures, c .elevation-of .ensures, at .word-at .ensures .0) (said _ _ _);
+      stored = omega (arith, at .word-at .ensures .1);
     }
 
 pub corner-at-spec : {M : Type 1} → statement M
-corner-at-spec = tie.close (tie.spec returns nth-requires (search needs) (search needs) returns-2)
+corner-at-spec = tie.close (tie.spec word-at-requires (search needs) (search needs) returns)

@@ -16,12 +16,14 @@ read c = sym (rw (c .reading .given .1) at (c .before .before .read-point .ensur
 returns : tie.Need-returns
 returns c =
     let at = c .before in
-    simp (read (at .before .before .before), ← at .is-water .ensures, c .if1 .taken, at .before .metres-of .ensures)
+    let metres = at .before .before in
+    simp (read (metres .before .before), ← at .is-water .ensures, c .if1 .taken, metres .metres-of .ensures)
 
 returns-2 : tie.Need-returns-2
 returns-2 c =
     let at = c .before in
-    simp (read (at .before .before .before), ← at .is-water .ensures, c .if1 .left, at .before .metres-of .ensures)
+    let metres = at .before .before in
+    simp (read (metres .before .before), ← at .is-water .ensures, c .if1 .left, metres .metres-of .ensures)
 
 returns-3 : tie.Need-returns-3
 returns-3 c = simp (← (rw (c .before .number .given .1) at (c .before .before .before .read-point .ensures)))
@@ -29,4 +31,4 @@ returns-3 c = simp (← (rw (c .before .number .given .1) at (c .before .before 
 pub engine-point-spec : {M : Type 1} → statement M
 engine-point-spec =
     tie.close
-    (tie.spec (search needs) (search needs) (search needs) (search needs) (search needs) returns returns-2 returns-3)
+    (tie.spec (search needs) (search needs) (search needs) (search needs) (search needs) (search needs) returns returns-2 returns-3)

@@ -2,24 +2,24 @@
 use borrow.Author.Needs.{needs}
 use Rattle.ground.proofs.Laws.Outcome.{told}
 use Rattle.terrain.specs.Record.{soughtMeans}
-use Rattle.terrain.proofs.Laws.Taken.{record-is}
-use Rattle.reading.specs.Reading.{pointIn}
+use Rattle.terrain.proofs.Laws.Taken.{vouched-reaches}
+use Rattle.reading.specs.Reading.{spotIn}
 use Rattle.reading.proofs.point.read_in.Statement.{statement}
 use Rattle.reading.proofs.point.read_in.Tie as tie
 
 read-taken-requires : tie.Need-read-taken-requires
 read-taken-requires c κs =
     let at = c .before .before .before in
-    record-is (at .before .before .pre) _ _ (told soughtMeans (at .seek .ensures) (c .before .taken .given .1)) .reaches
+    vouched-reaches (at .before .before .pre) _ _ (told soughtMeans (at .seek .ensures) (c .before .taken .given .1))
 
 returns : tie.Need-returns
-unfolding pointIn
+unfolding spotIn
 returns c =
     let at = c .before .before in
     simp (told soughtMeans (at .before .before .seek .ensures) (at .taken .given .1), c .read-taken .ensures)
 
 returns-2 : tie.Need-returns-2
-unfolding pointIn
+unfolding spotIn
 returns-2 c = simp (told soughtMeans (c .before .before .before .seek .ensures) (c .before .number .given .1))
 
 pub read-in-spec : {M : Type 1} → statement M

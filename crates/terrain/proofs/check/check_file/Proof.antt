@@ -1,48 +1,22 @@
--- `check_file` meets its contract: the checks in the definition's order. A ground that was opened has 28 or 29 rows. Assumes nothing.
-use mathlib.Core.Path.{_≡_, sym}
-use mathlib.Core.Bool.{true}
-use native.Mathlib.Omega.{arith}
+-- `check_file` meets its contract: what `open_file` says decides between the refusal and the check of the index. Assumes nothing.
 use borrow.Author.Needs.{needs}
-use Rattle.ground.specs.Outcome.{given}
-use Rattle.ground.specs.Ground.{opened}
-use Rattle.ground.proofs.Laws.Test.{passes, fails}
-use Rattle.ground.proofs.Laws.Ground.{opened-is}
-use Rattle.index.specs.Bytes.{wholeRecords}
+use Rattle.ground.proofs.Laws.Outcome.{told}
+use Rattle.terrain.specs.Check.{checkedMeans}
 use Rattle.terrain.proofs.Laws.Checked.{checked-steps}
 use Rattle.terrain.proofs.check.check_file.Statement.{statement}
 use Rattle.terrain.proofs.check.check_file.Tie as tie
 
-returns : tie.Need-returns
-returns c = simp (checked-steps, fails (c .before .is-whole .ensures) (c .if1 .taken))
-
--- the ground that was opened
-ground : (c : tie.After-ground) → (
-    let a = c .before .before .before .before .before .before .args in
-    opened (a .base) (a .zone) ≡ given (c .ground .given .0 .0)
-    )
-ground c = sym (rw (c .ground .given .1) at (c .before .before .«open» .ensures))
-
--- past the test of the length
-whole : (c : tie.Else1) → wholeRecords (c .before .before .before .args .file .now) ≡ true
-whole c = passes (c .before .is-whole .ensures) (c .if1 .left)
-
 check-on-requires : tie.Need-check-on-requires
 check-on-requires c κs =
-    let t = opened-is _ _ _ (ground (c .before)) in
-    (whole (c .before .before .before .before), omega arith)
+    record { base = _; zone = _; gave = told checkedMeans (c .before .before .before .open-file .ensures) (c .before .terrain .given .1) }
+
+returns : tie.Need-returns
+returns c =
+    let at = c .before .before in
+    simp (checked-steps, told checkedMeans (at .before .before .open-file .ensures) (at .terrain .given .1), c .check-on .ensures)
 
 returns-2 : tie.Need-returns-2
-returns-2 c =
-    let on = c .before .before in
-    simp (checked-steps, whole (on .before .before .before), ground on, c .check-on .ensures)
-
-returns-3 : tie.Need-returns-3
-returns-3 c =
-    let refusal = c .before in
-    let at = refusal .before .before in
-    simp (checked-steps, whole (at .before), ← (rw (refusal .number .given .1) at (at .«open» .ensures)))
+returns-2 c = simp (checked-steps, told checkedMeans (c .before .before .before .open-file .ensures) (c .before .number .given .1))
 
 pub check-file-spec : {M : Type 1} → statement M
-check-file-spec =
-    tie.close
-    (tie.spec (search needs) returns (search needs) (search needs) check-on-requires (search needs) returns-2 returns-3)
+check-file-spec = tie.close (tie.spec (search needs) (search needs) check-on-requires (search needs) returns returns-2)

@@ -1,11 +1,12 @@
 -- `record_at` meets its contract: what `check_file` and `seek` say decides between no bytes and the record cut out of the file. Assumes nothing.
-use mathlib.Core.Path.{_≡_, refl}
+use mathlib.Core.Path.{_≡_, refl, _∙_}
 use borrow.Author.Needs.{needs}
 use Rattle.ground.specs.Outcome.{given}
 use Rattle.ground.proofs.Laws.Outcome.{told}
-use Rattle.terrain.specs.Check.{checked, checkedMeans}
+use Rattle.terrain.specs.Check.{checked, checkedMeans, Gave}
 use Rattle.terrain.specs.Record.{recordFor, recordIn, soughtMeans}
-use Rattle.terrain.proofs.Laws.Taken.{record-is}
+use Rattle.terrain.proofs.Laws.Checked.{gave-opens}
+use Rattle.terrain.proofs.Laws.Taken.{record-is, all-vouched}
 use Rattle.terrain.proofs.record.record_at.Statement.{statement}
 use Rattle.terrain.proofs.record.record_at.Tie as tie
 
@@ -16,6 +17,9 @@ terrain : (c : tie.After-terrain) → (
     )
 terrain c = told checkedMeans (c .before .before .check-file .ensures) (c .terrain .given .1)
 
+gave : (c : tie.After-terrain) → Gave (c .before .before .before .before .args .file .now) (c .terrain .given .0 .0)
+gave c = record { base = _; zone = _; gave = terrain c }
+
 returns : tie.Need-returns
 unfolding recordFor
 returns c =
@@ -23,13 +27,20 @@ returns c =
     simp (told checkedMeans (refusal .before .before .check-file .ensures) (refusal .enum-told .given .1)) (record { bytes = refl; block = refl; start = refl })
 
 seek-requires : tie.Need-seek-requires
-seek-requires c κs = record { base = _; zone = _; gave = terrain (c .before) }
+seek-requires c κs = gave-opens (gave (c .before))
+
+-- what was sought in it
+sought : (c : tie.After-seek) → (
+    let a = c .before .before .before .before .before .before .args in
+    soughtMeans (c .seek .result) ≡ recordIn (a .file .now) (c .before .before .terrain .given .0 .0) (a .point)
+    )
+sought c = c .seek .ensures ∙ all-vouched (gave (c .before .before)) _
 
 returns-2 : tie.Need-returns-2
 unfolding recordFor
 returns-2 c =
     let at = c .before .before .before in
-    simp (terrain (at .before .before), told soughtMeans (at .seek .ensures) (c .before .enum-told2 .given .1))
+    simp (terrain (at .before .before), told soughtMeans (sought at) (c .before .enum-told2 .given .1))
     (record { bytes = refl; block = refl; start = refl })
 
 -- the record that was found
@@ -38,12 +49,12 @@ found : (c : tie.After-taken) → (
     recordIn (at .before .before .before .before .args .file .now) (at .terrain .given .0 .0) (at .before .before .before .before .args .point)
     ≡ given (c .taken .given .0 .0)
     )
-found c = told soughtMeans (c .before .before .seek .ensures) (c .taken .given .1)
+found c = told soughtMeans (sought (c .before .before)) (c .taken .given .1)
 
 cut-requires : tie.Need-cut-requires
 cut-requires c κs =
     let at = c .before in
-    let r = record-is (record { base = _; zone = _; gave = terrain (at .before .before .before .before) }) _ _ (found at) .reaches in
+    let r = record-is (gave (at .before .before .before .before)) _ _ (found at) .reaches in
     (r .past, r .recorded)
 
 returns-3 : tie.Need-returns-3

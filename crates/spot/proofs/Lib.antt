@@ -1,0 +1,2 @@
+-- The laws of a spot.
+pub mod Laws
