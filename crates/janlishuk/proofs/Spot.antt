@@ -111,7 +111,7 @@ module _ (file after : List ℕ) (b z : ℕ) (p : Point) (s : ReadAnswer) (spots
     pub spot-code-in-bytes : Greatest (λ code. over file b z p iy ix row column (λ word weight. cond (eqb (word / 8192) code) weight 0)) 7 (s .code)
     spot-code-in-bytes = mean-code file b z p iy ix row column _ spot-mean-there
 
--- the bytes k and k + 1 are the same in both files
+-- the bytes k and k + 1 are the same in both files; `SameAt` of `spot`, said here again so that the theorem can be read alone
 abbrev pub SameBytes : (f g : List ℕ) → ℕ → Type 0
 SameBytes f g k = (getD f k 0 ≡ getD g k 0) × (getD f (k + 1) 0 ≡ getD g (k + 1) 0)
 
