@@ -1,8 +1,8 @@
-/* Asks the library and plain C the same questions about three made files.
+/* Asks the library and plain C the same questions about made files.
  *   bench same                     compares all answers of the two over many questions, also about damaged files; exit 1 on a difference
  *   bench CALL SIDE FILE TIMES     makes the file, asks the call TIMES times, and prints its answer
- * CALL is check, read, read_seam, spot, spot_seam, upload, profile, verdict, plan or plan_none; SIDE is library, plain or every_pair; FILE is hundred,
- * all or most. */
+ * CALL is check, read, read_seam, read_line, spot, spot_seam, upload, upload_line, profile, profile_line, verdict, plan or plan_none; SIDE is library,
+ * plain or every_pair; FILE is hundred, all, most, one, two or four. */
 #include "plain.h"
 
 #include <stdbool.h>
@@ -29,8 +29,9 @@
 #define BAND_ROW 10u
 #define BAND 10u
 
-/* The files: with the hundred records of the band, with every rectangle, and with every rectangle and as many records as a file may have. */
-enum kind { HUNDRED, ALL, MOST };
+/* The files: with the hundred records of the band, with every rectangle, and with every rectangle and as many records as a file may have; and with the
+ * hundred records on ground where the four corners around a point have one code, two or four. */
+enum kind { HUNDRED, ALL, MOST, ONE, TWO, FOUR };
 
 /* The calls of one side. */
 struct side {
@@ -105,10 +106,20 @@ static uint32_t elevation(uint32_t x, uint32_t y, bool ridge)
     return 100 + valley + wave(x, 34) + wave(y, 46) / 2 + (ridge && off < 2 ? 600 : 0);
 }
 
-/* The surface code at a word, in patches. */
-static uint32_t surface(uint32_t x, uint32_t y)
+/* The surface code at a word: in patches, or such that the four corners around a point have one code, two or four. Two lie row by row in every other
+ * column of units, and crosswise in those between. */
+static uint32_t surface(enum kind kind, uint32_t x, uint32_t y)
 {
-    return (x / 6 + 3 * (y / 9)) % 8;
+    switch (kind) {
+    case ONE:
+        return 5;
+    case TWO:
+        return 1 + (x / 2 + y) % 2 * 4;
+    case FOUR:
+        return 1 + x % 2 + y % 2 * 2;
+    default:
+        return (x / 6 + 3 * (y / 9)) % 8;
+    }
 }
 
 /* Puts a number at a place of the file, high byte first. */
@@ -125,30 +136,31 @@ static void put_position(uint32_t n, uint32_t number)
 }
 
 /* Writes the words of a rectangle into a record. */
-static void put_record(uint32_t record, uint32_t column, uint32_t row, bool ridge)
+static void put_record(enum kind kind, uint32_t record, uint32_t column, uint32_t row, bool ridge)
 {
     size_t at = RECORD * (record - 1);
     for (uint32_t y = 31 * row; y < 31 * row + 32; y++) {
         for (uint32_t x = 15 * column; x < 15 * column + 16; x++, at += 2)
-            put(at, 8192 * surface(x, y) + elevation(x, y, ridge));
+            put(at, 8192 * surface(kind, x, y) + elevation(x, y, ridge));
     }
 }
 
 /* Makes a file of the band alone or of every rectangle but 0, whose records are in no order, and answers its length. */
 static size_t make_file(enum kind kind, bool ridge)
 {
-    uint32_t needed = kind == HUNDRED ? BAND * BAND : COLUMNS * ROWS - 1;
+    bool band = kind != ALL && kind != MOST;
+    uint32_t needed = band ? BAND * BAND : COLUMNS * ROWS - 1;
     uint32_t records = kind == MOST ? 4096 - 6 : needed;
     uint32_t covered = 0;
     memset(file, 0, 6 * RECORD);
     for (uint32_t n = 1; n < COLUMNS * ROWS; n++) {
         uint32_t column = n % COLUMNS, row = n / COLUMNS;
-        if (kind == HUNDRED && (column - BAND_COLUMN >= BAND || row - BAND_ROW >= BAND))
+        if (band && (column - BAND_COLUMN >= BAND || row - BAND_ROW >= BAND))
             continue;
         uint32_t record = 7 + 1009 * covered % records;
         covered++;
         put_position(n, record);
-        put_record(record, column, row, ridge);
+        put_record(kind, record, column, row, ridge);
     }
     put_position(3072, 6 + records);
     return RECORD * (6 + records);
@@ -172,6 +184,15 @@ static struct question long_path(size_t length)
     struct question q = {file, length, BASE, ZONE, first, second, 100, 100, {{0}, {0}, 0, 0, 0, 0, 0}};
     spread(&q.survey, JANLISHUK_MOST_POINTS);
     return q;
+}
+
+/* Moves a question onto grid lines: its points onto lines from south to north, its path onto one of them. */
+static void move_onto_lines(struct question *q)
+{
+    q->first.easting -= (q->first.easting - WEST) % 500;
+    q->second = (struct janlishuk_point){ZONE, q->first.easting, q->first.northing + 99999};
+    for (size_t k = 0; k < LIST; k++)
+        q->survey.eastings[k] -= (q->survey.eastings[k] - WEST) % 500;
 }
 
 /* Asks for a check. In every ask_ function the answer's alignment fixes that of the stack, on which the cost of clearing memory depends. */
@@ -452,9 +473,11 @@ static void damage(struct question *q)
  * clear. Answers 1 unless every refusal was met. */
 static int same(void)
 {
-    for (int kind = 0; kind < 6; kind++) {
-        size_t length = make_file((enum kind)(kind % 3), kind > 2);
+    for (int kind = 0; kind < 12; kind++) {
+        size_t length = make_file((enum kind)(kind % 6), kind > 5);
         struct question q = long_path(length);
+        compare(&q);
+        move_onto_lines(&q);
         compare(&q);
         for (int k = 0; k < 100; k++) {
             q = some_question(length);
@@ -499,23 +522,34 @@ static int same(void)
 /* The north-eastern corner of the band. Where the band alone is covered, it is read from the last of the four rectangles that are tried. */
 static const struct janlishuk_point seam = {ZONE, WEST + 7500 * (BAND_COLUMN + BAND), SOUTH + 15500 * (BAND_ROW + BAND)};
 
-/* A call of the measured ones, by its name; plan_none is asked of a file with a ridge, read_seam and spot_seam of a point on a seam. */
+/* What a measured question is asked of: ground as it comes, with a ridge, a point on a seam, or grid lines. */
+enum where { ANYWHERE, RIDGE, SEAM, LINES };
+
+/* A call of the measured ones, by its name. */
 struct call {
     const char *name;
     void (*ask)(const struct side *side, const struct question *q, unsigned long times);
-    bool ridge;
-    bool seam;
+    enum where where;
 };
 
 static const struct call calls[] = {
-    {"check", ask_check, false, false},     {"read", ask_read, false, false},       {"read_seam", ask_read, false, true},
-    {"spot", ask_spot, false, false},       {"spot_seam", ask_spot, false, true},   {"upload", ask_upload, false, false},
-    {"profile", ask_profile, false, false}, {"verdict", ask_verdict, false, false}, {"plan", ask_plan, false, false},
-    {"plan_none", ask_plan, true, false},
+    {"check", ask_check, ANYWHERE},
+    {"read", ask_read, ANYWHERE},
+    {"read_seam", ask_read, SEAM},
+    {"read_line", ask_read, LINES},
+    {"spot", ask_spot, ANYWHERE},
+    {"spot_seam", ask_spot, SEAM},
+    {"upload", ask_upload, ANYWHERE},
+    {"upload_line", ask_upload, LINES},
+    {"profile", ask_profile, ANYWHERE},
+    {"profile_line", ask_profile, LINES},
+    {"verdict", ask_verdict, ANYWHERE},
+    {"plan", ask_plan, ANYWHERE},
+    {"plan_none", ask_plan, RIDGE},
 };
 
 /* The names of the files, in the order of their kinds. */
-static const char *const kinds[] = {"hundred", "all", "most"};
+static const char *const kinds[] = {"hundred", "all", "most", "one", "two", "four"};
 
 /* Asks what the arguments name; 2 where they name nothing. */
 int main(int argc, char **argv)
@@ -523,15 +557,17 @@ int main(int argc, char **argv)
     if (argc == 2 && strcmp(argv[1], "same") == 0)
         return same();
     int kind = HUNDRED;
-    while (argc == 5 && kind <= MOST && strcmp(argv[3], kinds[kind]) != 0)
+    while (argc == 5 && kind <= FOUR && strcmp(argv[3], kinds[kind]) != 0)
         kind++;
-    for (size_t c = 0; argc == 5 && kind <= MOST && c < sizeof calls / sizeof calls[0]; c++) {
+    for (size_t c = 0; argc == 5 && kind <= FOUR && c < sizeof calls / sizeof calls[0]; c++) {
         for (size_t s = 0; s < sizeof sides / sizeof sides[0]; s++) {
             if (strcmp(argv[1], calls[c].name) != 0 || strcmp(argv[2], sides[s].name) != 0)
                 continue;
-            struct question q = long_path(make_file((enum kind)kind, calls[c].ridge));
-            if (calls[c].seam)
+            struct question q = long_path(make_file((enum kind)kind, calls[c].where == RIDGE));
+            if (calls[c].where == SEAM)
                 q.first = seam;
+            if (calls[c].where == LINES)
+                move_onto_lines(&q);
             calls[c].ask(&sides[s], &q, strtoul(argv[4], NULL, 10));
             return 0;
         }

@@ -154,10 +154,52 @@ static inline bool lacks_height(uint32_t word, uint32_t weight)
     return word % ELEVATIONS == NO_HEIGHT && weight > 0;
 }
 
-/* The one of two surface codes with the greater sum of weights, on a tie the smaller code. */
-static inline uint32_t greater(const uint32_t *sums, uint32_t code, uint32_t other)
+/* A corner's surface code and what it weighs, or what corners of that code weigh together. */
+struct sum {
+    uint32_t code;
+    uint32_t weight;
+};
+
+/* What a sum weighs for a code: all of it if the code is its own. */
+static inline uint32_t weight_for(struct sum sum, uint32_t code)
 {
-    return sums[other] > sums[code] || (sums[other] == sums[code] && other < code) ? other : code;
+    return sum.code == code ? sum.weight : 0;
+}
+
+/* Code and weight as one number, greater for a greater weight and, where weights tie, for a smaller code. */
+static inline uint32_t rank(uint32_t code, uint32_t weight)
+{
+    return CODES * weight + (CODES - 1 - code);
+}
+
+/* The greater of two numbers. */
+static inline uint32_t greater(uint32_t a, uint32_t b)
+{
+    return a < b ? b : a;
+}
+
+/* The code of the heavier of two sums, on a tie the smaller code. */
+static inline uint32_t vote_of_two(uint32_t a, uint32_t a_weight, uint32_t b, uint32_t b_weight)
+{
+    if (a == b)
+        return a;
+    return a_weight < b_weight || (a_weight == b_weight && b < a) ? b : a;
+}
+
+/* The surface code with the greatest sum of weights, ties to the smaller code. Where each row or each column of the corners has one code, two
+ * sums decide, and none where these are the same; else each code is added up from the first corner that has it over those that follow. */
+static inline uint32_t vote(struct sum sw, struct sum se, struct sum nw, struct sum ne)
+{
+    if (sw.code == se.code && nw.code == ne.code)
+        return vote_of_two(sw.code, sw.weight + se.weight, nw.code, nw.weight + ne.weight);
+    if (sw.code == nw.code && se.code == ne.code)
+        return vote_of_two(sw.code, sw.weight + nw.weight, se.code, se.weight + ne.weight);
+    uint32_t of_sw = sw.weight + weight_for(se, sw.code) + weight_for(nw, sw.code) + weight_for(ne, sw.code);
+    uint32_t of_se = se.weight + weight_for(nw, se.code) + weight_for(ne, se.code);
+    uint32_t of_nw = nw.weight + weight_for(ne, nw.code);
+    uint32_t south = greater(rank(sw.code, of_sw), rank(se.code, of_se));
+    uint32_t north = greater(rank(nw.code, of_nw), rank(ne.code, ne.weight));
+    return CODES - 1 - greater(south, north) % CODES;
 }
 
 /* Whether an entry names a record, one from 7 to M. */
@@ -203,13 +245,9 @@ static inline __attribute__((always_inline)) uint32_t read_in(const struct groun
         return 6;
     *height = sw_weight * (sw % ELEVATIONS) + se_weight * (se % ELEVATIONS) + nw_weight * (nw % ELEVATIONS) + ne_weight * (ne % ELEVATIONS);
     if (code != NULL) {
-        uint32_t sums[CODES] = {0};
-        sums[sw / ELEVATIONS] += sw_weight;
-        sums[se / ELEVATIONS] += se_weight;
-        sums[nw / ELEVATIONS] += nw_weight;
-        sums[ne / ELEVATIONS] += ne_weight;
-        uint32_t south = greater(sums, sw / ELEVATIONS, se / ELEVATIONS);
-        *code = (uint8_t)greater(sums, greater(sums, south, nw / ELEVATIONS), ne / ELEVATIONS);
+        struct sum of_sw = {sw / ELEVATIONS, sw_weight}, of_se = {se / ELEVATIONS, se_weight};
+        struct sum of_nw = {nw / ELEVATIONS, nw_weight}, of_ne = {ne / ELEVATIONS, ne_weight};
+        *code = (uint8_t)vote(of_sw, of_se, of_nw, of_ne);
     }
     return 0;
 }

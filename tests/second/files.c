@@ -14,7 +14,7 @@ struct ground {
     uint8_t code_east[EAST_LINES];
     uint8_t code_north[NORTH_LINES];
     uint32_t noise;
-    bool drawn_codes;
+    uint32_t drawn_codes;
     bool flat;
 };
 
@@ -229,13 +229,13 @@ static void draw_elevations(const struct file *file)
     }
 }
 
-/* Chooses the codes: one for all, drawn for every word, or in stripes and patches. */
+/* Chooses the codes: one for all, drawn for every word from two to eight, or in stripes and patches. */
 static void draw_codes(void)
 {
     uint32_t kind = below(4);
     uint32_t same = below(8);
     uint32_t kinds = between(2, 8);
-    ground.drawn_codes = kind == 0;
+    ground.drawn_codes = kind == 0 ? kinds : 0;
     for (uint32_t k = 0; k < EAST_LINES; k++)
         ground.code_east[k] = (uint8_t)(kind == 1 ? same : chance(60) && k > 0 ? ground.code_east[k - 1] : below(kinds));
     for (uint32_t k = 0; k < NORTH_LINES; k++)
@@ -247,14 +247,15 @@ static void write_record(uint8_t *record, uint32_t rectangle)
 {
     uint32_t east = 15 * (rectangle % 100);
     uint32_t north = 31 * (rectangle / 100);
-    bool drawn = ground.noise > 1 || ground.drawn_codes;
+    bool drawn = ground.noise > 1 || ground.drawn_codes > 0;
     for (uint32_t k = 0; k < 512; k++) {
         uint32_t x = east + k % 16;
         uint32_t y = north + k / 16;
         uint64_t bits = drawn ? draw() : 0;
         int32_t elevation = ground.east[x] + ground.north[y] + (int32_t)(((bits & 0xFFFFFFFF) * ground.noise) >> 32);
         elevation = elevation < 0 ? 0 : elevation > 8190 ? 8190 : elevation;
-        uint32_t code = ground.drawn_codes ? (uint32_t)(bits >> 61) : (uint32_t)(ground.code_east[x] + ground.code_north[y]) % 8;
+        uint32_t striped = (uint32_t)(ground.code_east[x] + ground.code_north[y]) % 8;
+        uint32_t code = ground.drawn_codes > 0 ? (uint32_t)(bits >> 61) % ground.drawn_codes : striped;
         put(record + 2 * k, 8192 * code + (uint32_t)elevation);
     }
 }

@@ -80,6 +80,7 @@ static void tally_reading(const struct file *file, const struct question *q, uin
     for (uint32_t other = 0; other < CODES; other++)
         tie = tie || (other != code && sums[other] == sums[code]);
     uint64_t word = rules_word(q->base, q->first);
+    tally_vote(corners, code);
     count_if(weightless_missing(corners), WEIGHTLESS);
     count_if(tie, TIE);
     count_if(top, TOP);
@@ -348,6 +349,7 @@ void print_tally(void)
     printf("\n%-46s %6s\n", "kind of answer", "times");
     for (int kind = 0; kind < KIND_COUNT; kind++)
         printf("%-46s %6" PRIu64 "\n", kind_texts[kind], kinds[kind]);
+    print_votes();
     print_seams();
     print_spots();
     printf("\nreadings given by surface code 0 to 7, readings given by base 0 to 80, bases found 0 to 80\n");
@@ -390,6 +392,7 @@ bool tally_lacks(void)
                 any |= lacks(refusals[call][refusal], call_name((enum call)call), "refusal", refusal);
     for (int kind = 0; kind < KIND_COUNT; kind++)
         any |= lacks(kinds[kind], "kind of answer,", kind_texts[kind], -1);
+    any |= votes_lack();
     any |= seams_lack();
     any |= spots_lack();
     for (int code = 0; code < CODES; code++)

@@ -40,6 +40,15 @@
     K(TOO_FAR, "refusal 7 for Q > 10,000,000,000") \
     K(WEIGHTLESS, "reading: weightless corner, no height") \
     K(TIE, "reading: tie in the vote") \
+    K(VOTE_ROWS, "vote: two codes, row by row") \
+    K(VOTE_COLUMNS, "vote: two codes, column by column") \
+    K(VOTE_CROSSWISE, "vote: two codes, crosswise") \
+    K(VOTE_THREE, "vote: two codes, three corners to one") \
+    K(VOTE_OUTVOTED, "vote: heaviest corner outvoted") \
+    K(VOTE_TIE, "vote: tie off the lines") \
+    K(VOTE_TIE_ON_LINE, "vote: tie on a line") \
+    K(VOTE_TIE_LATER, "vote: tie to a corner after the first") \
+    K(VOTE_AGREED, "vote: one code, a weightless corner of another") \
     K(TOP, "reading: 8190 m, the highest") \
     K(LAST_COLUMN, "reading: last column of a rectangle") \
     K(LAST_ROW, "reading: last row of a rectangle") \
@@ -174,6 +183,11 @@ uint32_t tally_samples(struct rules_file file, const struct question *question, 
 void tally_taken(enum call call, uint32_t taken);
 void print_seams(void);
 bool seams_lack(void);
+
+/* tally_votes.c */
+void tally_vote(const struct rules_corner corners[4], uint64_t code);
+void print_votes(void);
+bool votes_lack(void);
 
 /* tally_spots.c */
 bool tally_spot(const struct file *file, const struct question *question, uint32_t refusal);

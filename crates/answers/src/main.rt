@@ -10,6 +10,7 @@ mod say;
 mod seams;
 mod spots;
 mod surveys;
+mod votes;
 
 // Prints the answers to all questions.
 fn main() {
@@ -18,6 +19,7 @@ fn main() {
     damage::checks(file);
     points::points(&file);
     seams::seams(file);
+    votes::votes(file);
     spots::spots(file);
     surveys::surveys(&file);
     links::paths(&file);

@@ -15,6 +15,10 @@ pub const INDEX: usize = 6;
 // The most records that a file may have.
 pub const MOST_RECORDS: usize = 4096;
 
+// What a byte past the last whole record counts for, 2^54: with it a length is turned by 10 of its 64
+// bits, which is one instruction.
+const PER_BYTE_PAST: usize = 18014398509481984;
+
 // The position that holds the highest record number.
 pub const LAST: usize = 3072;
 
@@ -28,12 +32,13 @@ pub fn nth(bytes: &[u8], n: usize) -> u16
     256 * bytes[at] as u16 + bytes[at + 1] as u16
 }
 
-// Whether the file's length is that of 6 to 4096 whole records.
+// Whether the file's length is that of 6 to 4096 whole records. One comparison tells: each byte past the
+// last whole record counts for more records than a file can have, and below 6 the difference wraps.
 pub fn is_whole(file: &[u8]) -> bool
     ensures { λ r. ⌜ r ≡ wholeRecords (now (file .entry)) ⌝ }
 {
-    let records = file.len() / RECORD;
-    (file.len() % RECORD == 0) & ((INDEX <= records) & (records <= MOST_RECORDS))
+    let records = file.len() / RECORD + PER_BYTE_PAST * (file.len() % RECORD);
+    std::num::wrapping_sub_usize(records, INDEX) <= MOST_RECORDS - INDEX
 }
 
 // Whether the number is that of one of the first `past` records past the index, from 7 to 6 + past. One

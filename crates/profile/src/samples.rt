@@ -7,7 +7,6 @@ use path::Asked;
 use path::Found;
 use path::Path;
 use path::ROOM;
-use reading::point::PointRead;
 use terrain::check::Checked;
 use terrain::check::Terrain;
 
@@ -31,13 +30,12 @@ fn walk(
 {
     let mut i = 0;
     while i <= path.n {
-        match reading::point::read_in(file, terrain, path.sample(i)) {
-            PointRead::Given(reading) => {
-                heights[i as usize] = reading.height;
-                codes[i as usize] = reading.code;
-            }
-            PointRead::Refused(number) => return Sampled::Refused(number, i),
+        let read = reading::point::read_in(file, terrain, path.sample(i));
+        if read.refusal != 0 {
+            return Sampled::Refused(read.refusal, i);
         }
+        heights[i as usize] = read.height;
+        codes[i as usize] = read.code as u8;
         i += 1;
     }
     Sampled::Whole(path)

@@ -9,8 +9,19 @@ use Rattle.ground.specs.declared.place.Weights.{Weights}
 use Rattle.index.specs.Bytes.{nth, recordBytes}
 use Rattle.terrain.specs.Word.{codeOf, elevationOf}
 use Rattle.terrain.specs.declared.record.Taken.{Taken}
-use Rattle.reading.specs.declared.corner.Corner.{Corner}
-use Rattle.reading.specs.declared.corner.Corners.{Corners}
+
+-- a corner: what it weighs, and the surface code and the elevation that its word says
+pub record Corner : Type 0 where
+  pub weight : ℕ
+  pub code : ℕ
+  pub elevation : ℕ
+
+-- the four corners around a point
+pub record Corners : Type 0 where
+  pub sw : Corner
+  pub se : Corner
+  pub nw : Corner
+  pub ne : Corner
 
 -- The corner at word w of a record. It weighs in if its weight is above 0; else its word is not looked at, and stands for code 0 and elevation 0.
 unfoldable pub corner : List ℕ → ℕ → ℕ → Corner

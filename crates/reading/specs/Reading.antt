@@ -1,19 +1,16 @@
 -- The reading of a point. Document 01, "A reading" and "The numbers we say no with". Assumes nothing.
 use mathlib.Core.List.{List}
 use Prim.Native.Nat.{ℕ}
-use Rattle.ground.specs.Outcome.{Outcome, given, refused, unless, _andThen_, refusalNumber, refusalPlace, filledBy}
+use Rattle.ground.specs.Outcome.{Outcome, given, unless, _andThen_, refusalNumber, refusalPlace, filledBy}
 use Rattle.ground.specs.declared.point.Point.{Point}
 use Rattle.terrain.specs.Check.{highestOf, checked}
 use Rattle.terrain.specs.Record.{recordIn, vouched}
 use Rattle.terrain.specs.declared.check.Terrain.{Terrain}
 use Rattle.terrain.specs.declared.record.Taken.{Taken}
-use Rattle.reading.specs.Corner.{cornersOf, anyLacksHeight, exactHeight}
+use Rattle.reading.specs.Corner.{Corners, cornersOf, anyLacksHeight, exactHeight}
 use Rattle.reading.specs.Vote.{vote}
-use Rattle.reading.specs.declared.corner.Corners.{Corners}
 use Rattle.reading.specs.declared.point.Reading.{Reading}
 use Rattle.reading.specs.declared.point.ReadAnswer.{ReadAnswer}
-use Rattle.reading.specs.declared.point.PointRead.{PointRead}
-use Rattle.reading.specs.declared.point.PointRead.the-variants.{Given, Refused}
 
 -- refusal 6, else the exact height and the surface code of the four corners
 unfoldable pub readCorners : Corners → Outcome Reading
@@ -34,11 +31,6 @@ pointIn file t p = recordIn file t p andThen readTaken file
 -- the reading of a point: 1, 2, 3 for the file, then the point in it
 unfoldable pub reading : List ℕ → ℕ → ℕ → Point → Outcome Reading
 reading file b z p = checked file b z andThen λ t. pointIn file t p
-
--- what each case of `PointRead` means
-abbrev pub pointReadMeans : PointRead → Outcome Reading
-pointReadMeans (Given r) = given r
-pointReadMeans (Refused number) = refused number 0
 
 -- the answer of `janlishuk_read` as the caller gets it
 abbrev pub readAnswer : Outcome Reading → ReadAnswer

@@ -3,8 +3,7 @@
 use mathlib.Core.Bool.{cond}
 use Prim.Native.Nat.{ℕ, zero, suc, _+_, _≤_, _<_}
 use lib.Dec.{ltb, eqb}
-use Rattle.reading.specs.declared.corner.Corner.{Corner}
-use Rattle.reading.specs.declared.corner.Corners.{Corners}
+use Rattle.reading.specs.Corner.{Corner, Corners}
 
 -- what a corner weighs for a code: its weight if the code is its own
 abbrev pub weightFor : ℕ → Corner → ℕ

@@ -2,7 +2,6 @@
 ghost use mathlib.Core.Path.{_≡_};
 ghost use Rattle.reading.specs.Reading.{reading};
 ghost use Rattle.reading.specs.Engine.{metresOf, isWater, engineMeans, engine};
-use crate::point::PointRead;
 use ground::point::Point;
 
 // Land with its height in metres and its code, water with its level in metres and its code, or the
@@ -31,16 +30,14 @@ fn is_water(code: u32) -> bool
 pub fn engine_point(file: &[u8], base: u32, zone: u32, point: Point) -> EnginePoint
     ensures { λ r. ⌜ engineMeans r ≡ engine (reading (now (file .entry)) base zone point) ⌝ }
 {
-    match crate::point::read_point(file, base, zone, point) {
-        PointRead::Given(reading) => {
-            let metres = metres_of(reading.height);
-            let code = reading.code as u32;
-            if is_water(code) {
-                EnginePoint::Water(metres, code)
-            } else {
-                EnginePoint::Land(metres, code)
-            }
-        }
-        PointRead::Refused(number) => EnginePoint::Refused(number),
+    let read = crate::point::read(file, base, zone, point);
+    if read.refusal != 0 {
+        return EnginePoint::Refused(read.refusal);
+    }
+    let metres = metres_of(read.height);
+    if is_water(read.code) {
+        EnginePoint::Water(metres, read.code)
+    } else {
+        EnginePoint::Land(metres, read.code)
     }
 }

@@ -97,8 +97,8 @@ fn read_each(
     let ground = terrain.ground;
     for i in 0..eastings.len() {
         let point = point_at(eastings, northings, i, ground.zone);
-        let read = reading::point::read_in(file, terrain, point);
-        enter(heights, codes, refusals, i, read.answer());
+        let answer = reading::point::read_in(file, terrain, point);
+        enter(heights, codes, refusals, i, answer);
     }
 }
 

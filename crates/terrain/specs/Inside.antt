@@ -3,12 +3,13 @@
 use mathlib.Core.Path.{_≡_}
 use mathlib.Core.Bool.{Bool, cond, not}
 use mathlib.Core.List.{List}
-use Prim.Native.Nat.{ℕ, _+_, _*_, _≤_, _<_}
+use Prim.Native.Nat.{ℕ, _*_, _≤_, _<_}
 use lib.ListN.{length}
 use Rattle.ground.specs.Outcome.{Outcome, given, unless}
 use Rattle.ground.specs.Ground.{rowsOf}
-use Rattle.ground.specs.Place.{wordsOf, AtEach}
+use Rattle.ground.specs.Place.{weightsOf, wordsOf, AtEach}
 use Rattle.ground.specs.declared.Ground.{Ground}
+use Rattle.ground.specs.declared.place.Place.{Place}
 use Rattle.index.specs.Bytes.{indexBytes}
 use Rattle.index.specs.Index.{highest, highestPasses, indexPasses}
 use Rattle.terrain.specs.Check.{terrainOf}
@@ -32,9 +33,15 @@ InIndex file n = (n < 3072) × (indexBytes ≤ length file)
 abbrev pub entryWhere : List ℕ → Bool → ℕ → ℕ
 entryWhere file c n = cond c (entry file n) 0
 
--- The record that a point is read from lies in the file past the index, the corners that weigh in are words of it, and the weights add up to 250,000.
+-- the weights at a place are those of a point fx and fy metres past its south-west corner
+pub record Measured (s : Place) : Type 0 where
+  pub x : s .fx .0 ≤ 499
+  pub y : s .fy .0 ≤ 499
+  pub weights : s .weights ≡ weightsOf (s .fx) (s .fy)
+
+-- The record that a point is read from lies in the file past the index, and the corners that weigh in are words of it.
 pub record Reaches (file : List ℕ) (t : Taken) : Type 0 where
   pub past : 7 ≤ t .entry
   pub recorded : 1024 * t .entry ≤ length file
   pub words : AtEach (λ w weight. (1 ≤ w) × (0 < weight → w ≤ 512)) (wordsOf (t .place)) (t .place .weights)
-  pub all : t .place .weights .sw + t .place .weights .se + (t .place .weights .nw + t .place .weights .ne) ≡ 250000
+  pub measured : Measured (t .place)

@@ -10,13 +10,10 @@ use native.Mathlib.Omega.{arith}
 use lib.Dec.{eqb·suc-zero}
 use borrow.Author.Tests.{eqb-true, eqb-false, eq-eqb, ne-eqb}
 use Rattle.ground.proofs.Laws.Test.{neither}
-use Rattle.ground.proofs.Laws.Place.{each}
 use Rattle.index.specs.Bytes.{nth}
 use Rattle.terrain.specs.Word.{elevationOf}
-use Rattle.reading.specs.Corner.{corner, lacksHeight, anyLacksHeight, exactHeight}
-use Rattle.reading.specs.Inside.{EachCorner, Weighed}
-use Rattle.reading.specs.declared.corner.Corner.{Corner}
-use Rattle.reading.specs.declared.corner.Corners.{Corners}
+use Rattle.reading.specs.Corner.{Corner, Corners, corner, lacksHeight, anyLacksHeight, exactHeight}
+use Rattle.reading.specs.Inside.{EachCorner, said}
 
 module _ (bytes : List ℕ) (w : ℕ) where
   -- the corner at word w has the weight that it was given
@@ -24,6 +21,11 @@ module _ (bytes : List ℕ) (w : ℕ) where
   unfolding corner
   corner-weight zero = refl
   corner-weight (suc n) = rw eqb·suc-zero
+
+  -- where it weighs in, it says what its word does
+  pub corner-says : (weight : ℕ) → 0 < weight → corner bytes w weight ≡ said (nth bytes w) weight
+  unfolding corner
+  corner-says weight h = rw (ne-eqb weight 0 (λ e. omega arith))
 
   -- its part in the exact height is its weight times what its word says
   pub corner-part : (weight : ℕ) → corner bytes w weight .weight * corner bytes w weight .elevation ≡ weight * elevationOf (nth bytes w)
@@ -36,6 +38,11 @@ module _ (bytes : List ℕ) (w : ℕ) where
   unfolding corner
   corner-lacks zero = (λ e. absurd (eqb-false 0 8191 refl (eqb-true 0 8191 e)), λ h. absurd (omega arith))
   corner-lacks (suc n) = rw eqb·suc-zero ((λ e. (omega arith, eqb-true _ _ e)), λ h. eq-eqb _ _ (h .1))
+
+-- four corners are told by each of them
+pub by-each : {a b c d : Corner} {e f g h : Corner} → a ≡ e → b ≡ f → c ≡ g → d ≡ h
+    → _≡_ {A = Corners} (record { sw = a; se = b; nw = c; ne = d }) (record { sw = e; se = f; nw = g; ne = h })
+by-each p q r s = rw (p, q, r, s)
 
 -- a corner does not say 8191
 abbrev pub SaysHeight : Corner → Type 0
@@ -91,8 +98,3 @@ height-within lo hi c all h =
     let low = simp add-mul at (ap (λ (t : ℕ). t * lo) all) in
     let high = simp add-mul at (ap (λ (t : ℕ). t * hi) all) in
     record { least = omega arith; most = omega arith }
-
--- an elevation is at most 8191, so the exact height fits a u32
-pub height-fits : (c : Corners) → Weighed c → exactHeight c ≤ 2047750000
-height-fits c w =
-    height-within 0 8191 c (w .all) (each (λ k s p. omega arith) (w .corners)) .most

@@ -1,24 +1,26 @@
--- What `vote` means: its code has the greatest sum of weights, and of those that tie it is the smallest; no other code has both. And how the sums come
--- about, one corner at a time, in a list with a place for each code. Assumes nothing.
-use mathlib.Core.Path.{_≡_, refl, sym, _∙_, ap}
-use mathlib.Core.Logic.{⊎-elim}
-use mathlib.Core.Bool.{Bool, true, false, cond, and-eq-true-iff}
+-- What `vote` means: its code has the greatest sum of weights, and of those that tie it is the smallest; no other code has both. And where it is found: the
+-- greatest of the eight sums, ties to the smaller code, is that of a corner that weighs in; of two codes it is the nearer one's. From the laws of weights.
+-- Assumes nothing.
+use mathlib.Core.Path.{_≡_, refl, sym, _∙_, ap, subst}
+use mathlib.Core.Logic.{_⊎_, inl, inr, ⊎-elim}
+use mathlib.Core.Bool.{Bool, true, false, cond, _&&_, and-eq-true-iff}
 use mathlib.Core.List.{List, [], _∷_}
-use Prim.Native.Nat.{ℕ, zero, suc, _+_, _≤_, _<_}
-use native.Mathlib.Nat.{le-refl, le-of-eq, eq-or-lt-of-le}
+use Prim.Native.Nat.{ℕ, zero, suc, _+_, _-_, _*_, _≤_, _<_}
+use native.Mathlib.Nat.{le-refl, le-of-eq, eq-or-lt-of-le, mul-le-mul-left, mul-lt-mul-of-pos-left}
 use native.Mathlib.Decide.{decLt}
 use native.Mathlib.Omega.{arith}
-use lib.Dec.{eqb, eqb·suc-zero}
-use lib.ListN.{length, getD, set, replicate, length-set, getD-replicate}
-use lib.Seq.{getD-set-same, getD-set-other}
-use borrow.Author.Tests.{lt-ltb, le-ltb, ltb-true, eqb-true, eqb-false, eq-eqb}
+use lib.Dec.{ltb, eqb, eqb·suc-zero}
+use borrow.Author.Tests.{lt-ltb, le-ltb, eqb-true, eqb-false, eq-eqb, ne-eqb}
+use Rattle.ground.specs.declared.place.Place.{Place}
+use Rattle.ground.proofs.Laws.Place.{Weighs, weighs}
 use Rattle.index.specs.Bytes.{nth}
 use Rattle.terrain.specs.Word.{codeOf}
-use Rattle.reading.specs.Corner.{corner}
+use Rattle.terrain.specs.Inside.{Measured}
+use Rattle.reading.specs.Corner.{Corner, Corners, corner}
 use Rattle.reading.specs.Vote.{weightFor, sumFor, greatest, Greatest, vote}
-use Rattle.reading.specs.Inside.{Weighed, alike, outweighs}
-use Rattle.reading.specs.declared.corner.Corner.{Corner}
-use Rattle.reading.specs.declared.corner.Corners.{Corners}
+use Rattle.reading.specs.Inside.{first, second, weightIn, sumIn, Decides, joined, rankOf, toldBy, larger, weightOf, totalOf, Reached, Top, fromTo, cornersAround, cornersAlong}
+use Rattle.reading.specs.declared.edge.Edge.{Edge}
+use Rattle.reading.specs.declared.vote.Sum.{Sum}
 
 -- only one number is greatest in this sense
 pub greatest-only : {f : ℕ → ℕ} {n a b : ℕ} → Greatest f n a → Greatest f n b → a ≡ b
@@ -29,42 +31,33 @@ greatest-only {f} {n} {a} {b} g h = go (decLt a b) (decLt b a)
     go (no l) (yes m) = omega (arith, g .tie b m, h .most a (g .within))
     go (no l) (no m) = omega arith
 
--- among the numbers 0 to 0 it is 0
-pub at-first : (f : ℕ → ℕ) → Greatest f 0 0
-at-first f =
+-- the number that `greatest` gives: 0 of the number 0 alone; the next number where f is greater there, else the one so far
+pub greatest-is : (f : ℕ → ℕ) (n : ℕ) → Greatest f n (greatest f n)
+unfolding greatest
+greatest-is f zero =
     record {
       within = le-refl 0;
       most = λ k l. let e : k ≡ 0 = omega arith in rw e (le-refl (f 0));
       tie = λ k l. omega arith;
     }
-
--- the next number takes its place if f is greater there
-pub replaced : {f : ℕ → ℕ} {n best : ℕ} (m : ℕ) → m ≡ suc n → Greatest f n best → f best < f m → Greatest f m m
-replaced {f} m s g h =
-    record {
-      within = le-refl m;
-      most = λ k l. ⊎-elim (λ e. le-of-eq (ap f e)) (λ lt. omega (arith, g .most k (omega arith))) (eq-or-lt-of-le l);
-      tie = λ k l. omega (arith, g .most k (omega arith));
-    }
-
--- the greatest so far stays where the next number has no more
-pub kept : {f : ℕ → ℕ} {n best : ℕ} (m : ℕ) → m ≡ suc n → Greatest f n best → f m ≤ f best → Greatest f m best
-kept m s g h =
-    record {
-      within = omega arith;
-      most = λ k l. ⊎-elim (λ e. rw e h) (λ lt. g .most k (omega arith)) (eq-or-lt-of-le l);
-      tie = g .tie;
-    }
-
--- the number that `greatest` gives
-pub greatest-is : (f : ℕ → ℕ) (n : ℕ) → Greatest f n (greatest f n)
-unfolding greatest
-greatest-is f zero = at-first f
 greatest-is f (suc n) = go (greatest-is f n) (decLt (f (greatest f n)) (f (suc n)))
   where
     go : Greatest f n (greatest f n) → Dec (f (greatest f n) < f (suc n)) → Greatest f (suc n) (greatest f (suc n))
-    go g (yes h) = rw (lt-ltb _ _ h) (replaced (suc n) refl g h)
-    go g (no h) = let l : f (suc n) ≤ f (greatest f n) = omega arith in rw (le-ltb _ _ l) (kept (suc n) refl g l)
+    go g (yes h) =
+        rw (lt-ltb _ _ h)
+        (record {
+          within = le-refl (suc n);
+          most = λ k l. ⊎-elim (λ e. le-of-eq (ap f e)) (λ lt. omega (arith, g .most k (omega arith))) (eq-or-lt-of-le l);
+          tie = λ k l. omega (arith, g .most k (omega arith));
+        })
+    go g (no h) =
+        let less : f (suc n) ≤ f (greatest f n) = omega arith in
+        rw (le-ltb _ _ less)
+        (record {
+          within = omega (arith, g .within);
+          most = λ k l. ⊎-elim (λ e. rw e less) (λ lt. g .most k (omega arith)) (eq-or-lt-of-le l);
+          tie = g .tie;
+        })
 
 -- a function with the same values at the numbers 0 to n is greatest at the same one
 pub greatest-by : {f g : ℕ → ℕ} {n best : ℕ} → ((k : ℕ) → k ≤ n → f k ≡ g k) → Greatest f n best → Greatest g n best
@@ -92,111 +85,244 @@ unfolding corner
 corner-for bytes code w zero = same (eqb 0 code) ∙ sym (same (eqb (codeOf (nth bytes w)) code))
 corner-for bytes code w (suc n) = rw eqb·suc-zero
 
--- the list of sums with the weight of a corner added to the sum of its code
-abbrev added : List ℕ → Corner → List ℕ
-added l c = set l (c .code) (getD l (c .code) 0 + c .weight)
+-- a sum weighs all of it for its own code
+own : (s : Sum) → weightIn (s .code) s ≡ s .weight
+own s = rw (eq-eqb (s .code) (s .code) refl)
 
--- the other sums stay
-added-at : (l : List ℕ) (c : Corner) (code : ℕ) → c .code < length l → getD (added l c) code 0 ≡ getD l code 0 + weightFor code c
-added-at l c code h = go (eqb (c .code) code) refl
+-- and nothing for another
+pub other : (s : Sum) (code : ℕ) → (s .code ≡ code → ⊥) → weightIn code s ≡ 0
+other s code n = rw (ne-eqb (s .code) code n)
+
+-- two sums of one code weigh as much for any code as one
+as-one : (s t : Sum) → s .code ≡ t .code → (code : ℕ) → weightIn code (joined s t) ≡ weightIn code s + weightIn code t
+as-one s t e code = rw (← e) (go (eqb (s .code) code))
   where
-    go : (b : Bool) → eqb (c .code) code ≡ b → getD (added l c) code 0 ≡ getD l code 0 + weightFor code c
-    go true e = rw (e, ← eqb-true (c .code) code e, getD-set-same l (c .code))
-    go false e = rw (e, getD-set-other l (c .code) code _ 0 (λ q. eqb-false (c .code) code e (sym q))) (omega arith)
+    go : (b : Bool) → cond b (s .weight + t .weight) 0 ≡ cond b (s .weight) 0 + cond b (t .weight) 0
+    go true = refl
+    go false = refl
 
--- what a corner weighs for a code is at most its weight
-at-most : (b : Bool) (weight : ℕ) → cond b weight 0 ≤ weight
-at-most true weight = le-refl weight
-at-most false weight = omega arith
+-- neither of two numbers is above the greater
+larger-most : (a b : ℕ) → (a ≤ larger a b) × (b ≤ larger a b)
+larger-most a b = go (decLt a b)
+  where
+    go : Dec (a < b) → (a ≤ larger a b) × (b ≤ larger a b)
+    go (yes l) = rw (lt-ltb a b l) (omega arith, omega arith)
+    go (no l) = rw (le-ltb a b (omega arith)) (omega arith, omega arith)
 
--- what corners weigh for a code
-abbrev pub sumOf : List Corner → ℕ → ℕ
-sumOf [] code = 0
-sumOf (c ∷ cs) code = sumOf cs code + weightFor code c
+-- what holds of two numbers holds of the greater
+larger-either : (P : ℕ → Type 0) (a b : ℕ) → P a → P b → P (larger a b)
+larger-either P a b p q = go (ltb a b)
+  where
+    go : (t : Bool) → P (cond t b a)
+    go true = q
+    go false = p
 
--- what corners weigh in all
-abbrev pub weightOf : List Corner → ℕ
-weightOf [] = 0
-weightOf (c ∷ cs) = weightOf cs + c .weight
-
--- the list has the sum of each code over these corners, none above what the corners weigh in all
-pub record Counted (l : List ℕ) (cs : List Corner) : Type 0 where
-  pub places : length l ≡ 8
-  pub sums : (code : ℕ) → code ≤ 7 → getD l code 0 ≡ sumOf cs code
-  pub most : (code : ℕ) → code ≤ 7 → getD l code 0 ≤ weightOf cs
-
--- no corner yet
-pub none-counted : Counted (replicate 8 0) []
-none-counted =
+-- sums that weigh the same for every code have the same highest rank
+pub top-by : {l o : List Sum} {m : ℕ} → ((code : ℕ) → sumIn l code ≡ sumIn o code) → Top l m → Top o m
+top-by e t =
+    let r = t .reached in
     record {
-      places = refl;
-      sums = λ code h. getD-replicate 8 code 0 0 (omega arith);
-      most = λ code h. le-of-eq (getD-replicate 8 code 0 0 (omega arith));
+      reached = record { best = r .best; within = r .within; is = r .is; most = omega (arith, r .most, e (r .best .code)) };
+      highest = λ code h. rw (← e code) (t .highest code (omega (arith, e code)));
     }
 
--- one corner more
-pub one-more : {l m : List ℕ} {cs : List Corner} (c : Corner) → c .code ≤ 7 → Counted l cs → m ≡ added l c → Counted m (c ∷ cs)
-one-more {l} c h g e =
-    let at : (code : ℕ) → getD (added l c) code 0 ≡ getD l code 0 + weightFor code c = λ code. added-at l c code (omega arith) in
+-- a sum is joined with another one of its code, which stands among those that follow
+pub top-joined : (s t : Sum) (l o : List Sum) {m : ℕ} → s .code ≡ t .code → ((code : ℕ) → sumIn o code ≡ weightIn code t + sumIn l code)
+    → Top (joined s t ∷ l) m → Top (s ∷ o) m
+top-joined s t l o e with = top-by (λ code. omega (arith, as-one s t e code, with code))
+
+-- The law of the vote: a sum whose code no other has is ranked by itself, so the greatest of the eight sums is found among the codes of the sums.
+pub top-more : (s : Sum) (l : List Sum) (m : ℕ) → s .code ≤ 7 → sumIn l (s .code) ≡ 0 → Top l m → Top (s ∷ l) (larger (rankOf s) m)
+top-more s l m within alone t =
+    let r = t .reached in
     record {
-      places = rw (e, length-set) (g .places);
-      sums = λ code k. rw (e, at code, g .sums code k);
-      most = λ code k. rw (e, at code) (omega (arith, g .most code k, at-most (eqb (c .code) code) (c .weight)));
+      reached =
+          larger-either (Reached (s ∷ l)) (rankOf s) m
+          (record { best = s; within = within; is = refl; most = omega (arith, own s) })
+          (record { best = r .best; within = r .within; is = r .is; most = omega (arith, r .most) });
+      highest = λ code h. go code (eqb (s .code) code) refl h;
     }
-
--- once the four corners are counted, the greatest sum in the list is the vote
-pub counted-vote : {l : List ℕ} (c : Corners) → Counted l (c .ne ∷ c .nw ∷ c .se ∷ c .sw ∷ []) → greatest (λ code. getD l code 0) 7 ≡ vote c
-unfolding vote sumFor
-counted-vote {l} c g = greatest-only (greatest-by (λ code h. omega (arith, g .sums code h)) (greatest-is (λ code. getD l code 0) 7)) (vote-is c)
-
--- a corner weighs for two codes together at most its weight
-two-codes : (c : Corner) (j k : ℕ) → (j ≡ k → ⊥) → weightFor j c + weightFor k c ≤ c .weight
-two-codes c j k apart = go (eqb (c .code) j) refl (eqb (c .code) k) refl
   where
-    go : (s : Bool) → eqb (c .code) j ≡ s → (t : Bool) → eqb (c .code) k ≡ t → cond s (c .weight) 0 + cond t (c .weight) 0 ≤ c .weight
-    go true d true e = absurd (apart (sym (eqb-true _ _ d) ∙ eqb-true _ _ e))
-    go true d false e = omega arith
-    go false d t e = omega (arith, at-most t (c .weight))
+    go : (code : ℕ) (b : Bool) → eqb (s .code) code ≡ b → 0 < cond b (s .weight) 0 + sumIn l code
+        → rankOf (record { code = code; weight = cond b (s .weight) 0 + sumIn l code }) ≤ larger (rankOf s) m
+    go code true e h = rw (← eqb-true (s .code) code e) (omega (arith, alone, larger-most (rankOf s) m .0))
+    go code false e h = omega (arith, t .highest code (omega arith), larger-most (rankOf s) m .1)
 
--- where the corners weigh 250,000 together
-module _ (c : Corners) (w : Weighed c) where
-  -- a code that has more than half of it is the vote
-  majority : (code : ℕ) → code ≤ 7 → 125000 < sumFor c code → code ≡ vote c
-  unfolding sumFor
-  majority code within half =
-      greatest-only
-      (record { within = within; most = λ k l. not-more k (eqb code k) refl; tie = λ k l. less k (λ e. omega arith) })
-      (vote-is c)
+-- the highest rank of one sum is its own
+top-one : (s : Sum) → s .code ≤ 7 → Top (s ∷ []) (rankOf s)
+top-one s within =
+    record {
+      reached = record { best = s; within = within; is = refl; most = omega (arith, own s) };
+      highest = λ code h. go code (eqb (s .code) code) refl h;
+    }
+  where
+    go : (code : ℕ) (b : Bool) → eqb (s .code) code ≡ b → 0 < cond b (s .weight) 0 + 0
+        → rankOf (record { code = code; weight = cond b (s .weight) 0 + 0 }) ≤ rankOf s
+    go code true e h = rw (← eqb-true (s .code) code e) (omega arith)
+    go code false e h = omega arith
+
+-- the highest rank of two sums, of one code and of two
+pub top-two-same : (a b : Sum) → a .code ≤ 7 → a .code ≡ b .code → Top (a ∷ b ∷ []) (rankOf (joined a b))
+top-two-same a b p e = top-joined a b [] (b ∷ []) e (λ k. refl) (top-one (joined a b) p)
+
+pub top-two : (a b : Sum) → a .code ≤ 7 → b .code ≤ 7 → (a .code ≡ b .code → ⊥) → Top (a ∷ b ∷ []) (larger (rankOf a) (rankOf b))
+top-two a b p q n = top-more a (b ∷ []) (rankOf b) p (omega (arith, other b (a .code) (λ e. n (sym e)))) (top-one b q)
+
+-- sums that weigh something weigh something for a code
+some-code : (l : List Sum) → 0 < weightOf l → (code : ℕ) × (0 < sumIn l code)
+some-code [] h = absurd (omega arith)
+some-code (s ∷ l) h = go (decLt 0 (weightOf l)) (some-code l)
+  where
+    go : Dec (0 < weightOf l) → (0 < weightOf l → (code : ℕ) × (0 < sumIn l code)) → (code : ℕ) × (0 < sumIn (s ∷ l) code)
+    go (yes some) rest = let r = rest some in (r .0, omega (arith, r .1))
+    go (no none) rest = (s .code, omega (arith, own s))
+
+-- the highest rank of sums that weigh something tells the code that they decide for
+pub top-decides : (l : List Sum) (m : ℕ) → 0 < weightOf l → Top l m → Decides l (toldBy m)
+top-decides l m some t =
+    let r = t .reached in
+    let e : toldBy m ≡ r .best .code = omega (arith, r .within, r .is) in
+    rw e (record { within = r .within; most = λ k b. let h = higher k b in omega arith; tie = λ k b. let h = higher k (omega arith) in omega arith })
+  where
+    higher : (k : ℕ) → k ≤ 7 → rankOf (totalOf l k) ≤ rankOf (totalOf l (t .reached .best .code))
+    higher k b = go (decLt 0 (sumIn l k))
+      where
+        go : Dec (0 < sumIn l k) → rankOf (totalOf l k) ≤ rankOf (totalOf l (t .reached .best .code))
+        go (yes p) = omega (arith, t .highest k p, t .reached .is, t .reached .most)
+        go (no p) = let c = some-code l some in omega (arith, t .highest (c .0) (c .1), t .reached .is, t .reached .most)
+
+-- Of two sums that weigh something:
+module _ (a b : Sum) (some : 0 < a .weight + b .weight) (p : a .code ≤ 7) (q : b .code ≤ 7) where
+  -- a rank of this code that is the highest decides for it
+  told : (s : Sum) → s .code ≤ 7 → Top (a ∷ b ∷ []) (rankOf s) → Decides (a ∷ b ∷ []) (s .code)
+  told s h t = let e : toldBy (rankOf s) ≡ s .code = omega arith in rw e at (top-decides (a ∷ b ∷ []) (rankOf s) (omega arith) t)
+
+  -- the first decides where the second has no higher rank
+  pub first-decides : rankOf b ≤ rankOf a → Decides (a ∷ b ∷ []) (a .code)
+  first-decides h = go (eqb (a .code) (b .code)) refl
     where
-      less : (k : ℕ) → (code ≡ k → ⊥) → sumFor c k < sumFor c code
-      less k apart =
-          omega (
-            arith,
-            w .all,
-            two-codes (c .sw) code k apart,
-            two-codes (c .se) code k apart,
-            two-codes (c .nw) code k apart,
-            two-codes (c .ne) code k apart,
-          )
+      go : (t : Bool) → eqb (a .code) (b .code) ≡ t → Decides (a ∷ b ∷ []) (a .code)
+      go true e = told (joined a b) p (top-two-same a b p (eqb-true _ _ e))
+      go false e = told a p (rw (le-ltb (rankOf a) (rankOf b) h) at (top-two a b p q (eqb-false _ _ e)))
 
-      not-more : (k : ℕ) (t : Bool) → eqb code k ≡ t → sumFor c k ≤ sumFor c code
-      not-more k true e = rw (eqb-true code k e) (le-refl _)
-      not-more k false e = omega (arith, less k (eqb-false code k e))
+  -- and the second where the first has none
+  pub second-decides : rankOf a ≤ rankOf b → Decides (a ∷ b ∷ []) (b .code)
+  second-decides h = go (eqb (a .code) (b .code)) refl
+    where
+      go : (t : Bool) → eqb (a .code) (b .code) ≡ t → Decides (a ∷ b ∷ []) (b .code)
+      go true e =
+          let same = eqb-true (a .code) (b .code) e in
+          subst (λ (x : ℕ). Decides (a ∷ b ∷ []) x) same (told (joined a b) p (top-two-same a b p same))
+      go false e =
+          let n = eqb-false (a .code) (b .code) e in
+          let higher : rankOf a < rankOf b = omega (arith, n) in
+          told b q (rw (lt-ltb (rankOf a) (rankOf b) higher) at (top-two a b p q n))
 
-  -- the vote of corners that have one code is that code
-  pub alike-vote : alike c ≡ true → c .sw .code ≡ vote c
+-- The vote is what sums decide for that weigh for every code a part of what the corners weigh for it, the same for each.
+vote-by : (c : Corners) (l : List Sum) (n : ℕ) {code : ℕ} → 0 < n → ((k : ℕ) → n * sumIn l k ≡ sumFor c k) → Decides l code → code ≡ vote c
+vote-by c l n {code} some e d =
+    greatest-only
+    (record {
+      within = d .within;
+      most = λ k h. rw (← e k, ← e code) (mul-le-mul-left n (d .most k h));
+      tie = λ k h. rw (← e k, ← e code) (mul-lt-mul-of-pos-left (d .tie k h) some);
+    })
+    (vote-is c)
+
+-- the corners as sums of one corner each
+abbrev pub sumsOf : Corners → List Sum
+sumsOf c =
+    let of : Corner → Sum = λ k. record { code = k .code; weight = k .weight } in
+    of (c .sw) ∷ of (c .se) ∷ of (c .nw) ∷ of (c .ne) ∷ []
+
+-- they weigh for a code what the corners do
+sums-are : (c : Corners) (code : ℕ) → sumIn (sumsOf c) code ≡ sumFor c code
+unfolding sumFor
+sums-are c code = omega arith
+
+-- what the four sums decide for is the vote
+pub four-vote : (c : Corners) {code : ℕ} → Decides (sumsOf c) code → code ≡ vote c
+four-vote c = vote-by c (sumsOf c) 1 (omega arith) (λ k. omega (arith, sums-are c k))
+
+-- weights of one code that make 500 times another
+both : (t : Bool) (v w u : ℕ) → v + w ≡ 500 * u → cond t v 0 + cond t w 0 ≡ 500 * cond t u 0
+both true v w u e = e
+both false v w u e = refl
+
+-- two corners of a code and two of another, which weigh 500 times what two codes weigh f metres along a unit
+two-codes : (from to f k : ℕ) (v w x y : ℕ) → v + x ≡ 500 * (500 - f) → w + y ≡ 500 * f
+    → 500 * sumIn (fromTo f from to) k ≡ cond (eqb from k) v 0 + cond (eqb to k) w 0 + cond (eqb from k) x 0 + cond (eqb to k) y 0
+two-codes from to f k v w x y h g = omega (arith, both (eqb from k) v x (500 - f) h, both (eqb to k) w y f g)
+
+-- Of a point between two edges
+module _ (s n : Edge) (p : Place) (m : Measured p) where
+  -- the weights, which make 500 times fx in the east and 500 times fy in the north
+  weigh : Weighs (p .fx) (p .fy) (p .weights)
+  weigh = rw (m .weights) (weighs (p .fx) (p .fy) (omega (arith, m .x)) (omega (arith, m .y)))
+
+  -- the codes of the four corners
+  abbrev sw : ℕ
+  sw = codeOf (first (s .0))
+
+  abbrev se : ℕ
+  se = codeOf (second (s .0))
+
+  abbrev nw : ℕ
+  nw = codeOf (first (n .0))
+
+  abbrev ne : ℕ
+  ne = codeOf (second (n .0))
+
+  -- where the edges have the same codes, the vote is between west and east
+  pub columns-vote : {code : ℕ} → (eqb sw nw && eqb se ne) ≡ true → Decides (fromTo (p .fx .0) sw se) code → code ≡ vote (cornersAround s n (p .weights))
   unfolding sumFor
-  alike-vote h =
-      let t = and-eq-true-iff _ _ .0 h in
-      let s = and-eq-true-iff _ _ .0 (t .0) in
-      let se = eqb-true (c .sw .code) (c .se .code) (s .0) in
-      let ne = eqb-true (c .nw .code) (c .ne .code) (s .1) in
-      let nw = eqb-true (c .sw .code) (c .nw .code) (t .1) in
-      majority (c .sw .code) (w .corners .sw .code) (rw (← ne, ← nw, ← se, eq-eqb (c .sw .code) (c .sw .code) refl) (omega (arith, w .all)))
+  columns-vote alike =
+      let t = and-eq-true-iff (eqb sw nw) (eqb se ne) .0 alike in
+      let k = p .weights in
+      vote-by (cornersAround s n k) (fromTo (p .fx .0) sw se) 500 (omega arith)
+      λ c.
+      rw (← eqb-true sw nw (t .0), ← eqb-true se ne (t .1))
+      (two-codes sw se (p .fx .0) c (k .sw) (k .se) (k .nw) (k .ne) (omega (arith, weigh .east, weigh .all, m .x)) (omega (arith, weigh .east)))
 
-  -- the vote of corners of which the south-west one outweighs the others is its code
-  pub outweighing-vote : outweighs c ≡ true → c .sw .code ≡ vote c
+  -- where each edge has one code, it is between south and north
+  pub rows-vote : {code : ℕ} → (eqb sw se && eqb nw ne) ≡ true → Decides (fromTo (p .fy .0) sw nw) code → code ≡ vote (cornersAround s n (p .weights))
   unfolding sumFor
-  outweighing-vote h =
-      let more = ltb-true (c .se .weight + c .nw .weight + c .ne .weight) (c .sw .weight) h in
-      majority (c .sw .code) (w .corners .sw .code) (rw (eq-eqb (c .sw .code) (c .sw .code) refl) (omega (arith, w .all)))
+  rows-vote alike =
+      let t = and-eq-true-iff (eqb sw se) (eqb nw ne) .0 alike in
+      let k = p .weights in
+      vote-by (cornersAround s n k) (fromTo (p .fy .0) sw nw) 500 (omega arith)
+      λ c.
+      let sums = two-codes sw nw (p .fy .0) c (k .sw) (k .nw) (k .se) (k .ne) (omega (arith, weigh .north, weigh .all, m .y)) (omega (arith, weigh .north)) in
+      rw (← eqb-true sw se (t .0), ← eqb-true nw ne (t .1)) (omega (arith, sums))
+
+-- on an edge the two codes at its ends decide
+pub along-vote : (e : Edge) (f : ℕ) {code : ℕ} → Decides (fromTo f (codeOf (first (e .0))) (codeOf (second (e .0)))) code → code ≡ vote (cornersAlong e f)
+unfolding sumFor
+along-vote e f =
+    let from = codeOf (first (e .0)) in
+    let to = codeOf (second (e .0)) in
+    vote-by (cornersAlong e f) (fromTo f from to) 500 (omega arith)
+    λ k.
+    let sums = two-codes from to f k (500 * (500 - f)) (500 * f) 0 0 (omega arith) (omega arith) in
+    omega (arith, sums, same (eqb from k), same (eqb to k), same (eqb 0 k))
+
+-- one of the sums has the code, and weighs something
+abbrev pub SomeHas : List Sum → ℕ → Type 0
+SomeHas [] code = ⊥
+SomeHas (s ∷ l) code = ((s .code ≡ code) × (0 < s .weight)) ⊎ SomeHas l code
+
+-- a code for which sums weigh something is that of one that weighs something
+some-has : (l : List Sum) (code : ℕ) → 0 < sumIn l code → SomeHas l code
+some-has [] code h = omega arith
+some-has (s ∷ l) code h = go (eqb (s .code) code) refl (decLt 0 (s .weight)) (some-has l code) h
+  where
+    go : (t : Bool) → eqb (s .code) code ≡ t → Dec (0 < s .weight) → (0 < sumIn l code → SomeHas l code) → 0 < cond t (s .weight) 0 + sumIn l code
+        → SomeHas (s ∷ l) code
+    go true e (yes some) rest h = inl (eqb-true _ _ e, some)
+    go true e (no none) rest h = inr (rest (omega arith))
+    go false e d rest h = inr (rest (omega arith))
+
+-- The law behind the vote: the greatest of the eight sums, ties to the smaller code, is found among the codes of the corners that weigh in, if one with a
+-- code of the eight does.
+pub found-among : (c : Corners) (code : ℕ) → code ≤ 7 → 0 < sumFor c code → SomeHas (sumsOf c) (vote c)
+found-among c code h some = some-has (sumsOf c) (vote c) (omega (arith, sums-are c (vote c), vote-is c .most code h))

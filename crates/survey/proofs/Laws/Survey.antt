@@ -1,64 +1,32 @@
 -- The answer to a point of a checked file, whose numbers fit a byte and which is the single reading's; and what an upload leaves. From the laws of the record
 -- taken, of the reading and of the lists. Assumes nothing.
 use mathlib.Core.Path.{_≡_, refl, _∙_}
-use mathlib.Core.Logic.{⊎-elim}
-use mathlib.Core.Bool.{Bool, true, false, not}
+use mathlib.Core.Bool.{true, false}
 use mathlib.Core.List.{List}
 use Prim.Native.Nat.{ℕ, _≤_}
 use native.Mathlib.Omega.{arith}
 use lib.Dec.{lit≤}
-use Rattle.ground.specs.Outcome.{Outcome, given, refused, unless, _andThen_, refusalNumber}
-use Rattle.ground.specs.Ground.{holds}
-use Rattle.ground.specs.Place.{placeOf, located}
-use Rattle.ground.specs.declared.place.Place.{Place}
+use Rattle.ground.specs.Outcome.{Outcome, given, refused}
 use Rattle.ground.specs.declared.point.Point.{Point}
 use Rattle.ground.proofs.Laws.Outcome.{past, step}
 use Rattle.terrain.specs.Check.{checked, Gave}
-use Rattle.terrain.specs.Record.{taken, recordIn}
 use Rattle.terrain.specs.declared.check.Terrain.{Terrain}
 use Rattle.terrain.proofs.Laws.Checked.{checked-is}
-use Rattle.terrain.proofs.Laws.Taken.{taken-or-5}
-use Rattle.reading.specs.Corner.{cornersOf, anyLacksHeight, exactHeight}
-use Rattle.reading.specs.Vote.{vote}
-use Rattle.reading.specs.Reading.{readCorners, readTaken, pointIn, reading, readAnswer}
+use Rattle.reading.specs.Reading.{pointIn, reading, readAnswer}
 use Rattle.reading.specs.declared.point.Reading.{Reading}
 use Rattle.reading.proofs.Laws.Reading.{read-within}
+use Rattle.reading.proofs.Laws.Answer.{Numbered, point-numbered}
 use Rattle.survey.specs.Survey.{Lists, pointCount, unfit, withAnswers, answerOf, admitted, upload, Uploaded}
 use Rattle.survey.specs.Inside.{InBytes, answerIn, HasAnswers}
 use Rattle.survey.proofs.Laws.Lists.{ListsFit, fits}
 
--- a refusal's number is at most 6
-abbrev AtMost6 : {A : Type 0} → Outcome A → Type 0
-AtMost6 o = refusalNumber o ≤ 6
-
--- a test that refuses with a number of at most 6
-test-most : {A : Type 0} (t : Bool) (number : ℕ) (a : A) → number ≤ 6 → AtMost6 (unless t number (given a))
-test-most true number a h = h
-test-most false number a h = lit≤ tt
-
--- two steps whose refusals are at most 6
-steps-most : {A B : Type 0} (o : Outcome A) (f : A → Outcome B) → AtMost6 o → ((a : A) → AtMost6 (f a)) → AtMost6 (o andThen f)
-steps-most (given a) f h m = m a
-steps-most (refused number place) f h m = h
-
--- the refusal of a point of a checked file is at most 6
-refusal-most : (file : List ℕ) (t : Terrain) (p : Point) → refusalNumber (pointIn file t p) ≤ 6
-unfolding pointIn recordIn readTaken readCorners
-refusal-most file t p =
-    let g = t .ground in
-    let taken-most : (s : Place) → AtMost6 (taken file s) = λ s. ⊎-elim (λ x. rw (x .1) (lit≤ tt)) (λ e. rw e (lit≤ tt)) (taken-or-5 file s) in
-    let located-most = test-most (not (holds g p)) 4 (placeOf g p) (lit≤ tt) in
-    steps-most (recordIn file t p) (readTaken file) (steps-most (located g p) (taken file) located-most taken-most) λ u.
-    let c = cornersOf file u in
-    test-most (anyLacksHeight c) 6 (record { height = exactHeight c; code = vote c }) (lit≤ tt)
-
 -- code and refusal of a point of a checked file, read or not, fit a byte
 pub in-bytes : {file : List ℕ} {t : Terrain} (p : Point) → Gave file t → InBytes (readAnswer (pointIn file t p))
-in-bytes {file} {t} p g = (go (pointIn file t p) refl, omega (arith, refusal-most file t p))
+in-bytes {file} {t} p g = go (pointIn file t p) refl (point-numbered file t p)
   where
-    go : (o : Outcome Reading) → pointIn file t p ≡ o → readAnswer o .code ≤ 255
-    go (given r) e = omega (arith, read-within p g e .1)
-    go (refused number place) e = lit≤ tt
+    go : (o : Outcome Reading) → pointIn file t p ≡ o → Numbered o → InBytes (readAnswer o)
+    go (given r) e n = (omega (arith, read-within p g e .1), lit≤ tt)
+    go (refused number place) e n = (lit≤ tt, omega arith)
 
 -- in a file that passed, each entry is the single reading's
 pub entry-is : (file : List ℕ) (b z : ℕ) (t : Terrain) → checked file b z ≡ given t → (l : Lists) (i : ℕ) → answerIn file t l i ≡ answerOf file b z l i

@@ -4,7 +4,6 @@ use mathlib.Core.Path.{_≡_, refl, _∙_, ap}
 use Prim.Native.Nat.{ℕ, _-_, _≤_, _<_}
 use native.Mathlib.Omega.{arith}
 use lib.ListN.{length}
-use borrow.Author.Needs.{needs}
 use Rattle.terrain.proofs.Laws.Checked.{gave-opens}
 use Rattle.reading.specs.Reading.{readAnswer}
 use Rattle.reading.specs.declared.point.ReadAnswer.{ReadAnswer}
@@ -71,32 +70,30 @@ read-in-requires : tie.Need-read-in-requires Inv-loop μ-loop
 read-in-requires c κs = gave-opens (start (c .before) .pre .0)
 
 -- the answer to the point is the one that the contract speaks of
-read : (c : tie.After-answer Inv-loop μ-loop) → (
-    let at = c .before .before .before .before .before .before in
-    c .answer .result ≡ answer at (i at)
-    )
+read : (c : tie.After-read-in Inv-loop μ-loop) → c .read-in .result ≡ answer (c .before .before) (i (c .before .before))
 read c =
-    let said = c .before .before .before .before in
-    c .answer .ensures
-    ∙ ap readAnswer ((rw (said .before .point-at .ensures) at (said .read-in .ensures)) ∙ point-is-spot (start (said .before .before) .pre .0) _)
+    (rw (c .before .point-at .ensures) at (c .read-in .ensures)) ∙ ap readAnswer (point-is-spot (start (c .before .before) .pre .0) _)
 
 enter-requires : tie.Need-enter-requires Inv-loop μ-loop
 enter-requires c κs =
-    let at = c .before .before .before .before .before .before in
+    let said = c .before .before .before in
+    let at = said .before .before in
     let has = has-entry at in
-    ((omega (arith, has .0), (omega (arith, has .1 .0), omega (arith, has .1 .1))), rw (read c) (in-bytes _ (start at .pre .0)))
+    ((omega (arith, has .0), (omega (arith, has .1 .0), omega (arith, has .1 .1))), rw (read said) (in-bytes _ (start at .pre .0)))
 
 add-i : tie.Need-add-i Inv-loop μ-loop
-add-i c = let at = c .before .before .before .before .before .before .before .before .before .before .before .before .before in omega (arith, own at, fit at .most)
+add-i c = let at = c .before .before .before .before .before .before .before .before .before .before .before .before in omega (arith, own at, fit at .most)
 
 loop-less : tie.Need-loop-less Inv-loop μ-loop
-loop-less c = omega (arith, own (c .before .before .before .before .before .before .before .before .before .before .before .before .before))
+loop-less c = omega (arith, own (c .before .before .before .before .before .before .before .before .before .before .before .before))
 
 loop-again : tie.Need-loop-again Inv-loop μ-loop
 loop-again c =
-    let at = c .before .before .before .before .before .before .before .before .before .before .before .before .before in
-    let e = c .before .before .before .before .before .before .enter .ensures in
-    let more = one-answer-more (answer at) (lent at) (i at) (at .before .loop .inv .1) (read (c .before .before .before .before .before .before .before)) in
+    let entered = c .before .before .before .before .before .before in
+    let said = entered .before .before .before .before in
+    let at = said .before .before in
+    let e = entered .enter .ensures in
+    let more = one-answer-more (answer at) (lent at) (i at) (at .before .loop .inv .1) (read said) in
     (omega (arith, own at), rw (e .0, e .1 .0, e .1 .1) more)
 
 -- the lists at the end are as long as they were lent
@@ -128,5 +125,5 @@ returns c =
 pub read-each-spec : {M : Type 1} → statement M
 read-each-spec =
     tie.close
-    (tie.spec Inv-loop μ-loop loop-holds point-at-requires read-in-requires (search needs) enter-requires add-i loop-less loop-again same-length
+    (tie.spec Inv-loop μ-loop loop-holds point-at-requires read-in-requires enter-requires add-i loop-less loop-again same-length
     same-length-2 same-length-3 returns)

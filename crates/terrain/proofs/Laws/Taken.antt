@@ -18,7 +18,7 @@ use Rattle.ground.specs.declared.point.Point.{Point}
 use Rattle.ground.specs.declared.place.Place.{Place}
 use Rattle.ground.proofs.Laws.Boundary.{rows-28-29}
 use Rattle.ground.proofs.Laws.Outcome.{not-both, past, step, unchanged}
-use Rattle.ground.proofs.Laws.Place.{lies, weighs}
+use Rattle.ground.proofs.Laws.Place.{lies}
 use Rattle.ground.proofs.Laws.Seam.{allowed-exactly, number-within, words-within}
 use Rattle.index.specs.Index.{highest, isRecord, Passes}
 use Rattle.index.proofs.Laws.Walk.{from-7-to-M}
@@ -145,7 +145,7 @@ taken-reaches {file} g p h t e past recorded =
       past = past;
       recorded = recorded;
       words = words-within m;
-      all = rw (m .weights) (weighs (t .place .fx) (t .place .fy) (omega (arith, m .fx)) (omega (arith, m .fy)) .all);
+      measured = record { x = m .fx; y = m .fy; weights = m .weights };
     }
 
 -- a record that is taken in a file that passes: that of a covered rectangle of the file, past the index

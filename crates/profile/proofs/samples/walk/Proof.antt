@@ -1,16 +1,17 @@
 -- `walk` meets its contract. The loop's invariant: the samples before i were read, and are in their places. The measure is what is left of
 -- them. Assumes nothing.
-use mathlib.Core.Path.{_≡_, sym, _∙_}
+use mathlib.Core.Path.{_≡_, _∙_, ap}
 use Prim.Native.Nat.{ℕ, _+_, _-_, _≤_, _<_}
 use native.Mathlib.Omega.{arith}
 use borrow.Author.Needs.{needs}
 use Rattle.ground.specs.Outcome.{Outcome, given, refused}
-use Rattle.reading.specs.Reading.{pointIn, pointReadMeans}
+use Rattle.reading.specs.Reading.{pointIn, readAnswer}
 use Rattle.reading.specs.declared.point.Reading.{Reading}
 use Rattle.path.specs.Path.{sample}
 use Rattle.profile.specs.Profile.{linkOf, upTo, linkIn}
 use Rattle.terrain.proofs.Laws.Checked.{gave-opens}
-use Rattle.reading.proofs.Laws.Reading.{point-is-spot}
+use Rattle.reading.proofs.Laws.Reading.{point-is-spot, read-within}
+use Rattle.reading.proofs.Laws.Answer.{point-numbered, shows-reading, shows-refusal}
 use Rattle.profile.proofs.Laws.Profile.{one-more, one-refused}
 use Rattle.profile.proofs.samples.walk.Statement.{statement}
 use Rattle.profile.proofs.samples.walk.Tie as tie
@@ -28,21 +29,25 @@ reader c k = pointIn (c .args .file .now) (c .args .terrain) (sample (c .args .p
 
 said : (c : tie.After-read-in Inv-loop μ-loop) → (
     let at = c .before .before .before .before in
-    pointReadMeans (c .read-in .result) ≡ reader (at .before .before) (at .loop .i)
+    c .read-in .result ≡ readAnswer (reader (at .before .before) (at .loop .i))
     )
-said c = (rw (c .before .sample .ensures) at (c .read-in .ensures)) ∙ point-is-spot (c .before .before .before .before .before .before .pre .0) _
+said c =
+    (rw (c .before .sample .ensures) at (c .read-in .ensures))
+    ∙ ap readAnswer (point-is-spot (c .before .before .before .before .before .before .pre .0) _)
 
-read : (c : tie.After-reading Inv-loop μ-loop) → (
-    let at = c .before .before .before .before .before .before in
-    reader (at .before .before) (at .loop .i) ≡ given (c .reading .given .0 .0)
+read : (c : tie.Else2 Inv-loop μ-loop) → (
+    let read = c .before .before in
+    let at = read .before .before .before .before in
+    reader (at .before .before) (at .loop .i) ≡ given (record { height = read .read-in .result .height; code = read .read-in .result .code })
     )
-read c = sym (rw (c .reading .given .1) at (said (c .before .before)))
+read c = shows-reading _ (point-numbered _ _ _) (said (c .before .before)) (c .if2 .left)
 
-not-read : (c : tie.After-number Inv-loop μ-loop) → (
-    let at = c .before .before .before .before .before .before in
-    reader (at .before .before) (at .loop .i) ≡ refused (c .number .given .0 .0) 0
+not-read : (c : tie.Then2 Inv-loop μ-loop) → (
+    let read = c .before .before in
+    let at = read .before .before .before .before in
+    reader (at .before .before) (at .loop .i) ≡ refused (read .read-in .result .refusal) 0
     )
-not-read c = sym (rw (c .number .given .1) at (said (c .before .before)))
+not-read c = shows-refusal _ (point-numbered _ _ _) (said (c .before .before)) (c .if2 .taken)
 
 loop-holds : tie.Need-loop-holds Inv-loop μ-loop
 unfolding upTo
@@ -59,7 +64,13 @@ place : (c : tie.Then1 Inv-loop μ-loop) → c .before .before .loop .i < 201
 place c = omega (arith, c .before .before .before .before .pre .1 .0 .most)
 
 element-write-heights : tie.Need-element-write-heights Inv-loop μ-loop
-element-write-heights c = place (c .before .before .before .before .before)
+element-write-heights c = place (c .before .before .before .before)
+
+-- a code fits a byte
+cast-codes : tie.Need-cast-codes Inv-loop μ-loop
+cast-codes c =
+    let start = c .before .before .before .before .before .before .before .before .before in
+    omega (arith, read-within _ (start .pre .0) (read (c .before)) .1)
 
 element-write-codes : tie.Need-element-write-codes Inv-loop μ-loop
 element-write-codes c = place (c .before .before .before .before .before)
@@ -67,8 +78,8 @@ element-write-codes c = place (c .before .before .before .before .before)
 returns : tie.Need-returns Inv-loop μ-loop
 unfolding linkIn
 returns c =
-    let at = c .before .before .before .before .before .before .before in
-    simp (one-refused (reader (at .before .before)) (at .before .before .args .path .n) (omega arith) (at .loop .inv .1) (not-read (c .before)))
+    let at = c .before .before .before .before .before .before in
+    simp (one-refused (reader (at .before .before)) (at .before .before .args .path .n) (omega arith) (at .loop .inv .1) (not-read c))
 
 add-i : tie.Need-add-i Inv-loop μ-loop
 add-i c = omega (arith, place (c .before .before .before .before .before))
@@ -88,5 +99,5 @@ returns-2 c =
 pub walk-spec : {M : Type 1} → statement M
 walk-spec =
     tie.close
-    (tie.spec Inv-loop μ-loop loop-holds sample-requires read-in-requires (search needs) (search needs) (search needs) element-write-heights
-    (search needs) element-write-codes (search needs) returns add-i (search needs) loop-again returns-2)
+    (tie.spec Inv-loop μ-loop loop-holds sample-requires read-in-requires returns (search needs) (search needs) element-write-heights cast-codes (search needs)
+    element-write-codes add-i (search needs) loop-again returns-2)

@@ -20,9 +20,11 @@ returns c =
 
 returns-2 : tie.Need-returns-2
 unfolding spotIn
-returns-2 c = simp (told soughtMeans (c .before .before .before .seek .ensures) (c .before .number .given .1))
+returns-2 c =
+    let at = c .before .before in
+    simp (told soughtMeans (at .before .before .seek .ensures) (at .number .given .1), c .refused .ensures)
 
 pub read-in-spec : {M : Type 1} → statement M
 read-in-spec =
     tie.close
-    (tie.spec (λ c κs. search needs) (search needs) read-taken-requires (search needs) returns returns-2)
+    (tie.spec (λ c κs. search needs) (search needs) read-taken-requires (search needs) (search needs) returns returns-2)

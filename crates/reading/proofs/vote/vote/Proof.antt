@@ -1,16 +1,67 @@
--- `vote` meets its contract: corners of one code have it as their vote, a corner that outweighs the others has the vote, and the others' is
--- found by adding up. Assumes nothing.
-use mathlib.Core.Path.{_∙_, sym}
+-- `vote` meets its contract: between two codes the nearer one decides, else the four corners do. Assumes nothing.
+use mathlib.Core.Path.{_≡_}
+use Prim.Native.Nat.{_+_}
+use native.Mathlib.Omega.{arith}
 use borrow.Author.Needs.{needs}
-use Rattle.reading.proofs.Laws.Vote.{alike-vote, outweighing-vote}
+use Rattle.ground.proofs.Laws.Place.{weighs}
+use Rattle.reading.proofs.Laws.Vote.{columns-vote, rows-vote, top-decides, four-vote}
 use Rattle.reading.proofs.vote.vote.Statement.{statement}
 use Rattle.reading.proofs.vote.vote.Tie as tie
 
 returns : tie.Need-returns
-returns c = alike-vote _ (c .before .before .pre) (sym (c .before .are-alike .ensures) ∙ c .if1 .taken)
+returns c =
+    let second = c .before in
+    let first = second .before in
+    let like = first .before .before in
+    columns-vote _ _ _ (like .before .pre)
+    (rw (like .is-like .ensures) at (first .before .if1 .taken))
+    (rw (first .first-code .ensures, second .second-code .ensures) at (c .nearer .ensures))
 
 returns-2 : tie.Need-returns-2
-returns-2 c = outweighing-vote _ (c .before .before .before .before .pre) (sym (c .before .sw-outweighs .ensures) ∙ c .if2 .taken)
+returns-2 c =
+    let north = c .before in
+    let south = north .before in
+    let even2 = south .before .before in
+    let even = even2 .before in
+    let start = even .before .before .before in
+    rows-vote _ _ _ (start .pre)
+    (rw (even .has-one-code .ensures, even2 .has-one-code2 .ensures) at (south .before .if2 .taken))
+    (rw (south .first-code2 .ensures, north .first-code3 .ensures) at (c .nearer2 .ensures))
+
+-- what the four corners weigh together
+all : (c : tie.Start) → (let k = c .args .place .weights in k .sw + k .se + (k .nw + k .ne) ≡ 250000)
+all c =
+    let m = c .pre in
+    let p = c .args .place in
+    rw (m .weights) (weighs (p .fx) (p .fy) (omega (arith, m .x)) (omega (arith, m .y)) .all)
+
+best-of-four-requires : tie.Need-best-of-four-requires
+best-of-four-requires c κs =
+    let nw = c .before in
+    let se = nw .before in
+    let sw = se .before in
+    let start = sw .before .before .before .before .before .before .before in
+    record {
+      coded = (
+        omega (arith, sw .first-code4 .ensures),
+        (omega (arith, se .second-code2 .ensures), (omega (arith, nw .first-code5 .ensures), (omega (arith, c .second-code3 .ensures), tt))),
+      );
+      light = omega (arith, all start);
+    }
+
+returns-3 : tie.Need-returns-3
+returns-3 c =
+    let ne = c .before in
+    let nw = ne .before in
+    let se = nw .before in
+    let sw = se .before in
+    let start = sw .before .before .before .before .before .before .before in
+    four-vote _
+    (rw (sw .first-code4 .ensures, se .second-code2 .ensures, nw .first-code5 .ensures, ne .second-code3 .ensures) at
+    (top-decides _ _ (omega (arith, all start)) (c .best-of-four .ensures)))
 
 pub vote-spec : {M : Type 1} → statement M
-vote-spec = tie.close (tie.spec (search needs) returns (search needs) returns-2 (search needs) (search needs))
+vote-spec =
+    tie.close
+    (tie.spec (search needs) (search needs) (search needs) (search needs) returns (search needs) (search needs) (search needs) (search needs) (search needs) returns-2
+    (search needs) (search needs) (search needs) (search needs) best-of-four-requires (search needs) returns-3)
