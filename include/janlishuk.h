@@ -40,8 +40,8 @@
  * `place` is the number of the sample at which a refusal was met, which may be 0; for a refusal that was met at no sample it is 0.
  * Beside a refusal all other fields of the answer are 0. Bytes between the fields are not set, so compare answers by their fields.
  *
- * Surface codes: 0 unknown, 1 trees, 2 bare, 3 fresh water, 4 suburban, 5 marsh, 6 sea water, 7 urban. Where the
- * corners around a point have several, its code is the one with the greatest sum of weights, on a tie the smaller.
+ * Surface codes: 0 unknown, 1 trees, 2 bare, 3 fresh water, 4 suburban, 5 marsh, 6 sea water, 7 urban. Where the corners around a
+ * point have several, its code is the one whose corners weigh most together, and of two that weigh the same the smaller.
  *
  * The library is x86-64 code with the System V calling convention. A call needs less than 8 KB of stack and, of the C library, memcpy
  * and memset. Its doubles are those of the rounding mode that a C program starts with; a caller that has changed it gets other last
