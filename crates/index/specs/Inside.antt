@@ -31,6 +31,12 @@ pub record Walked (file : List ℕ) (M : ℕ) (marks : List Bool) (n : ℕ) : Ty
   pub passed : entriesPass file M n ≡ true
   pub marked : (r : ℕ) → 1 ≤ r → r ≤ 4096 → getD marks r false ≡ not (fresh file n r)
 
+-- Where marking the numbers from position `from` on, four at a time, comes to: position r before the end, up to which all have been walked over; or 0,
+-- and not all positions before the end pass.
+pub record PastRecords (file : List ℕ) (M from end : ℕ) (marks : List Bool) (r : ℕ) : Type 0 where
+  pub goes : 0 < r → Walked file M marks r × ((from ≤ r) × (r ≤ end))
+  pub stops : r ≡ 0 → entriesPass file M end ≡ false
+
 -- What marking the numbers of k positions tells of every file in which they stand at the positions n to n + k - 1: if r is true these positions
 -- pass too, and else not all positions up to them pass.
 pub record Marking (k : ℕ) (Of : List ℕ → ℕ → ℕ → Type 0) (before after : List Bool) (r : Bool) : Type 0 where

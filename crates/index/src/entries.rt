@@ -5,7 +5,7 @@ ghost use Prim.Native.Nat.{_+_, _*_, _≤_};
 ghost use lib.ListN.{length};
 ghost use Rattle.index.specs.Bytes.{indexBytes, mostRecords};
 ghost use Rattle.index.specs.Index.{entriesPass, restEmpty};
-ghost use Rattle.index.specs.Inside.{fourPositions, FourAt, Skipped, NextEntry};
+ghost use Rattle.index.specs.Inside.{fourPositions, FourAt, Skipped, NextEntry, Walked, PastRecords};
 use crate::bytes::LAST;
 use crate::bytes::nth;
 use crate::marks;
@@ -26,11 +26,12 @@ fn four_positions(file: &[u8], n: usize) -> u64
 // A position r such that all from `from` to before r hold 0, found four at a time: either fewer than
 // four are left before the end, or one of the next four is not 0.
 fn past_fours(file: &[u8], from: usize, end: usize) -> usize
-    requires { ⌜ (1 ≤ from) × ((from ≤ end) × (2 * end ≤ length (now file))) ⌝ }
+    requires { ⌜ (1 ≤ from) × ((from ≤ end) × ((4 ≤ end) × (2 * end ≤ length (now file)))) ⌝ }
     ensures { λ r. ⌜ Skipped (now (file .entry)) from end r ⌝ }
 {
+    let last = end - 4;
     let mut n = from;
-    while n + 4 <= end {
+    while n <= last {
         if four_positions(file, n) != 0 {
             break;
         }
@@ -41,7 +42,7 @@ fn past_fours(file: &[u8], from: usize, end: usize) -> usize
 
 // The first position from `from` to before the end that does not hold 0, or the end.
 fn next_entry(file: &[u8], from: usize, end: usize) -> usize
-    requires { ⌜ (1 ≤ from) × ((from ≤ end) × (2 * end ≤ length (now file))) ⌝ }
+    requires { ⌜ (1 ≤ from) × ((from ≤ end) × ((4 ≤ end) × (2 * end ≤ length (now file)))) ⌝ }
     ensures { λ r. ⌜ NextEntry (now (file .entry)) from end r ⌝ }
 {
     let mut n = past_fours(file, from, end);
@@ -67,24 +68,50 @@ fn four_at(file: &[u8], n: usize) -> Four
     }
 }
 
+// Marks the numbers in the positions from `from` on, four at a time, as long as all four are from 7 to
+// M. Comes back with the position after them; or with 0, which is none, where a number had a mark.
+fn past_records(
+    file: &[u8],
+    highest: usize,
+    from: usize,
+    end: usize,
+    marks: &mut [bool; MARKS],
+) -> usize
+    requires { ⌜ Walked (now file) highest (now marks) from × ((from ≤ end) × ((4 ≤ end) × ((2 * end ≤ length (now file)) × (6 ≤ highest)))) ⌝ }
+    ensures { λ r. ⌜ PastRecords (now (file .entry)) highest from end (now (marks .exit)) r ⌝ }
+{
+    let last = end - 4;
+    let mut n = from;
+    while n <= last {
+        let four = four_at(file, n);
+        if !marks::are_records(four, highest) {
+            break;
+        }
+        if !marks::mark_four(four, marks) {
+            return 0;
+        }
+        n += 4;
+    }
+    n
+}
+
 // Whether each position from 1 to before the end holds 0, or a number from 7 to M that no position
-// before it holds. Four are marked at once where all four hold numbers from 7 to M; else one is tried
-// and the zeros after it are passed by fours.
+// before it holds. Runs of such numbers are passed by fours; then one position is tried, and the zeros
+// after it are passed by fours.
 pub(crate) fn all_pass(file: &[u8], highest: usize, end: usize) -> bool
-    requires { ⌜ (1 ≤ end) × ((2 * end ≤ length (now file)) × ((6 ≤ highest) × (highest ≤ mostRecords))) ⌝ }
+    requires { ⌜ (4 ≤ end) × ((2 * end ≤ length (now file)) × ((6 ≤ highest) × (highest ≤ mostRecords))) ⌝ }
     ensures { λ r. ⌜ r ≡ entriesPass (now (file .entry)) highest end ⌝ }
 {
     let mut marks = [false; MARKS];
+    let last = end - 4;
     let mut n = 1;
-    while n + 4 <= end {
-        let four = four_at(file, n);
-        if marks::are_records(four, highest) {
-            if !marks::mark_four(four, &mut marks) {
-                return false;
-            }
-            n += 4;
-        } else {
-            if !marks::mark_one(four.first, highest, &mut marks) {
+    while n <= last {
+        n = past_records(file, highest, n, end, &mut marks);
+        if n == 0 {
+            return false;
+        }
+        if n <= last {
+            if !marks::mark_one(nth(file, n) as usize, highest, &mut marks) {
                 return false;
             }
             n = past_fours(file, n + 1, end);

@@ -40,21 +40,16 @@ fn mark(number: usize, marks: &mut [bool; MARKS]) -> bool
     new
 }
 
-// Marks the four numbers, up to one that had a mark, and tells whether none had.
+// Marks the four numbers one after the other, and tells whether none had a mark.
 pub(crate) fn mark_four(four: Four, marks: &mut [bool; MARKS]) -> bool
     requires { ⌜ ((four .first ≤ mostRecords) × (four .second ≤ mostRecords)) × ((four .third ≤ mostRecords) × (four .fourth ≤ mostRecords)) ⌝ }
     ensures { λ r. ⌜ Marking 4 (FourRecords four) (now (marks .entry)) (now (marks .exit)) r ⌝ }
 {
-    if !mark(four.first, marks) {
-        return false;
-    }
-    if !mark(four.second, marks) {
-        return false;
-    }
-    if !mark(four.third, marks) {
-        return false;
-    }
-    mark(four.fourth, marks)
+    let first = mark(four.first, marks);
+    let second = mark(four.second, marks);
+    let third = mark(four.third, marks);
+    let fourth = mark(four.fourth, marks);
+    first & second & third & fourth
 }
 
 // Whether the number is 0, or from 7 to M and without a mark. A number from 7 to M is marked.

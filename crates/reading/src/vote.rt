@@ -114,8 +114,10 @@ pub(crate) fn vote(south: Edge, north: Edge, place: Place) -> u32
     if south.is_like(north) {
         return nearer(place.fx.0, south.first_code(), south.second_code());
     }
-    if south.has_one_code() & north.has_one_code() {
-        return nearer(place.fy.0, south.first_code(), north.first_code());
+    if south.has_one_code() {
+        if north.has_one_code() {
+            return nearer(place.fy.0, south.first_code(), north.first_code());
+        }
     }
     let weights = place.weights;
     let best = best_of_four(

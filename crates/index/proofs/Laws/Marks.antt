@@ -1,7 +1,7 @@
 -- What marking a number tells: one from 7 to M that had no mark passes, and so do four one after the other. From the laws of the walk over the index.
 -- Assumes nothing.
-use mathlib.Core.Path.{_≡_, sym, _∙_}
-use mathlib.Core.Bool.{Bool, true, false, not, and-eq-true-iff, false≢true}
+use mathlib.Core.Path.{_≡_, refl, sym, _∙_}
+use mathlib.Core.Bool.{Bool, true, false, not, _&&_, and-eq-true-iff, false≢true}
 use mathlib.Core.List.{List}
 use Prim.Native.Nat.{ℕ, _+_, _≤_}
 use native.Mathlib.Omega.{arith}
@@ -52,30 +52,27 @@ marks-none {number} {highest} marks h =
       stops = λ w at t end l. entries-fail w end (omega arith) (stray-fails _ _ _ (rw (at .0, ← at .1) at h) λ z. eqb-false number 0 t (at .0 ∙ z));
     }
 
--- the first k of four numbers from 7 to M are marked
-pub record Far (f : Four) (k : ℕ) (before after : List Bool) : Type 0 where
-  pub walked : {file : List ℕ} {M n : ℕ} → Walked file M before n → FourRecords f file M n → Walked file M after (n + k)
+-- nothing is marked yet
+pub marks-nothing : {Of : List ℕ → ℕ → ℕ → Type 0} (marks : List Bool) → Marking 0 Of marks marks true
+marks-nothing marks =
+    record {
+      goes = λ {file} {M} {n} w of t. let e : n + 0 ≡ n = omega arith in rw e w;
+      stops = λ w of t. absurd (false≢true (sym t));
+    }
 
--- none of the four yet
-pub far-none : (f : Four) (marks : List Bool) → Far f 0 marks marks
-far-none f marks = record { walked = λ {file} {M} {n} w at. let e : n + 0 ≡ n = omega arith in rw e w }
-
--- the next of the four
-module _ (f : Four) {k number : ℕ} {before now after : List Bool} {r : Bool} (far : Far f k before now)
-    (at : (file : List ℕ) (M n : ℕ) → FourRecords f file M n → RecordAt number file M (n + k)) (m : Marking 1 (RecordAt number) now after r) where
-  -- it had no mark: one more is marked
-  pub far-on : (l : ℕ) → l ≡ k + 1 → r ≡ true → Far f l before after
-  far-on l e t =
-      record {
-        walked = λ {file} {M} {n} w four.
-            let i : n + l ≡ n + k + 1 = omega arith in
-            rw i (m .goes (far .walked w four) (at file M n four) t);
-      }
-
-  -- it had a mark: the four do not pass
-  pub far-stops : k + 1 ≤ 4 → r ≡ false → Marking 4 (FourRecords f) before after false
-  far-stops h t =
-      record {
-        goes = λ w four q. absurd (false≢true q);
-        stops = λ {file} {M} {n} w four q end l. m .stops (far .walked w four) (at file M n four) t end (omega arith);
-      }
+-- one number more is marked, that of the next position
+pub marks-more : {Of : List ℕ → ℕ → ℕ → Type 0} {k number : ℕ} {before now after : List Bool} {r s : Bool} → Marking k Of before now r
+    → ((file : List ℕ) (M n : ℕ) → Of file M n → RecordAt number file M (n + k)) → Marking 1 (RecordAt number) now after s
+    → Marking (k + 1) Of before after (r && s)
+marks-more {k = k} {r = true} m at one =
+    record {
+      goes = λ {file} {M} {n} w of t.
+          let e : n + (k + 1) ≡ n + k + 1 = omega arith in
+          rw e (one .goes (m .goes w of refl) (at file M n of) t);
+      stops = λ {file} {M} {n} w of t end h. one .stops (m .goes w of refl) (at file M n of) t end (omega arith);
+    }
+marks-more {r = false} m at one =
+    record {
+      goes = λ w of t. absurd (false≢true t);
+      stops = λ w of t end h. m .stops w of refl end (omega arith);
+    }

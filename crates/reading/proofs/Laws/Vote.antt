@@ -285,15 +285,14 @@ module _ (s n : Edge) (p : Place) (m : Measured p) where
       (two-codes sw se (p .fx .0) c (k .sw) (k .se) (k .nw) (k .ne) (omega (arith, weigh .east, weigh .all, m .x)) (omega (arith, weigh .east)))
 
   -- where each edge has one code, it is between south and north
-  pub rows-vote : {code : ℕ} → (eqb sw se && eqb nw ne) ≡ true → Decides (fromTo (p .fy .0) sw nw) code → code ≡ vote (cornersAround s n (p .weights))
+  pub rows-vote : {code : ℕ} → eqb sw se ≡ true → eqb nw ne ≡ true → Decides (fromTo (p .fy .0) sw nw) code → code ≡ vote (cornersAround s n (p .weights))
   unfolding sumFor
-  rows-vote alike =
-      let t = and-eq-true-iff (eqb sw se) (eqb nw ne) .0 alike in
+  rows-vote south north =
       let k = p .weights in
       vote-by (cornersAround s n k) (fromTo (p .fy .0) sw nw) 500 (omega arith)
       λ c.
       let sums = two-codes sw nw (p .fy .0) c (k .sw) (k .nw) (k .se) (k .ne) (omega (arith, weigh .north, weigh .all, m .y)) (omega (arith, weigh .north)) in
-      rw (← eqb-true sw se (t .0), ← eqb-true nw ne (t .1)) (omega (arith, sums))
+      rw (← eqb-true sw se south, ← eqb-true nw ne north) (omega (arith, sums))
 
 -- on an edge the two codes at its ends decide
 pub along-vote : (e : Edge) (f : ℕ) {code : ℕ} → Decides (fromTo f (codeOf (first (e .0))) (codeOf (second (e .0)))) code → code ≡ vote (cornersAlong e f)

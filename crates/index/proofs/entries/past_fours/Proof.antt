@@ -9,10 +9,10 @@ use Rattle.index.proofs.entries.past_fours.Statement.{statement}
 use Rattle.index.proofs.entries.past_fours.Tie as tie
 
 abbrev Inv-loop : tie.InvT-loop
-Inv-loop file from end n₀ n = Skipped file from end n
+Inv-loop file from end last n₀ n = Skipped file from end n
 
 abbrev μ-loop : tie.MeasureT-loop
-μ-loop file from end n₀ n = end - n
+μ-loop file from end last n₀ n = end - n
 
 loop-holds : tie.Need-loop-holds Inv-loop μ-loop
 loop-holds c = record { first = search needs; last = search needs; empty = λ n l h. omega arith }
@@ -35,4 +35,4 @@ returns-2 c = c .before .before .before .loop .inv
 pub past-fours-spec : {M : Type 1} → statement M
 past-fours-spec =
     tie.close
-    (tie.spec Inv-loop μ-loop loop-holds (search needs) (search needs) (search needs) (search needs) loop-again returns returns-2)
+    (tie.spec Inv-loop μ-loop (search needs) loop-holds (search needs) (search needs) (search needs) loop-again returns returns-2)

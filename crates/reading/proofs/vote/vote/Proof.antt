@@ -22,10 +22,11 @@ returns-2 c =
     let north = c .before in
     let south = north .before in
     let even2 = south .before .before in
-    let even = even2 .before in
+    let even = even2 .before .before in
     let start = even .before .before .before in
     rows-vote _ _ _ (start .pre)
-    (rw (even .has-one-code .ensures, even2 .has-one-code2 .ensures) at (south .before .if2 .taken))
+    (rw (even .has-one-code .ensures) at (even2 .before .if2 .taken))
+    (rw (even2 .has-one-code2 .ensures) at (south .before .if3 .taken))
     (rw (south .first-code2 .ensures, north .first-code3 .ensures) at (c .nearer2 .ensures))
 
 -- what the four corners weigh together
@@ -40,7 +41,7 @@ best-of-four-requires c κs =
     let nw = c .before in
     let se = nw .before in
     let sw = se .before in
-    let start = sw .before .before .before .before .before .before .before in
+    let start = sw .before .before .before .before .before .before in
     record {
       coded = (
         omega (arith, sw .first-code4 .ensures),
@@ -55,7 +56,7 @@ returns-3 c =
     let nw = ne .before in
     let se = nw .before in
     let sw = se .before in
-    let start = sw .before .before .before .before .before .before .before in
+    let start = sw .before .before .before .before .before .before in
     four-vote _
     (rw (sw .first-code4 .ensures, se .second-code2 .ensures, nw .first-code5 .ensures, ne .second-code3 .ensures) at
     (top-decides _ _ (omega (arith, all start)) (c .best-of-four .ensures)))
