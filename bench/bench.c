@@ -186,13 +186,15 @@ static struct question long_path(size_t length)
     return q;
 }
 
-/* Moves a question onto grid lines: its points onto lines from south to north, its path onto one of them. */
+/* Moves a question onto grid lines: its points onto lines from south to north and from west to east by turns, its path onto one of the former. */
 static void move_onto_lines(struct question *q)
 {
     q->first.easting -= (q->first.easting - WEST) % 500;
     q->second = (struct janlishuk_point){ZONE, q->first.easting, q->first.northing + 99999};
-    for (size_t k = 0; k < LIST; k++)
-        q->survey.eastings[k] -= (q->survey.eastings[k] - WEST) % 500;
+    for (size_t k = 0; k < LIST; k++) {
+        uint32_t *along = k % 2 == 0 ? &q->survey.eastings[k] : &q->survey.northings[k];
+        *along -= (*along - (k % 2 == 0 ? WEST : SOUTH)) % 500;
+    }
 }
 
 /* Asks for a check. In every ask_ function the answer's alignment fixes that of the stack, on which the cost of clearing memory depends. */

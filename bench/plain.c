@@ -148,10 +148,10 @@ static const uint8_t *find_beside(const uint8_t *file, uint32_t x, uint32_t y, u
     return NULL;
 }
 
-/* Whether a corner weighs in and has no height. */
-static inline bool lacks_height(uint32_t word, uint32_t weight)
+/* Whether a word says that there is no height. */
+static inline bool lacks_height(uint32_t word)
 {
-    return word % ELEVATIONS == NO_HEIGHT && weight > 0;
+    return word % ELEVATIONS == NO_HEIGHT;
 }
 
 /* A corner's surface code and what it weighs, or what corners of that code weigh together. */
@@ -227,6 +227,12 @@ static inline __attribute__((always_inline)) uint32_t read_in(const struct groun
         se = number_at(corner + 2);
         nw = number_at(corner + 2 * ROW_WORDS);
         ne = number_at(corner + 2 * ROW_WORDS + 2);
+        /* on a grid line a corner that does not weigh in stands for the one beside it, so that it lacks no height and has no code of its own */
+        if (fx == 0 || fy == 0) {
+            se = fx == 0 ? sw : se;
+            nw = fy == 0 ? sw : nw;
+            ne = fx == 0 ? nw : se;
+        }
     } else {
         const uint8_t *corner = find_beside(ground->file, x, y, fx, fy, &record);
         if (record == 0)
@@ -235,13 +241,13 @@ static inline __attribute__((always_inline)) uint32_t read_in(const struct groun
             return 3;
         /* a corner that does not weigh in may lie past the record, even past the file: it is not looked at */
         sw = number_at(corner);
-        se = fx > 0 ? number_at(corner + 2) : 0;
-        nw = fy > 0 ? number_at(corner + 2 * ROW_WORDS) : 0;
-        ne = 0;
+        se = fx > 0 ? number_at(corner + 2) : sw;
+        nw = fy > 0 ? number_at(corner + 2 * ROW_WORDS) : sw;
+        ne = fx > 0 ? se : nw;
     }
     uint32_t sw_weight = (UNIT - fx) * (UNIT - fy), se_weight = fx * (UNIT - fy);
     uint32_t nw_weight = (UNIT - fx) * fy, ne_weight = fx * fy;
-    if (lacks_height(sw, sw_weight) || lacks_height(se, se_weight) || lacks_height(nw, nw_weight) || lacks_height(ne, ne_weight))
+    if (lacks_height(sw) || lacks_height(se) || lacks_height(nw) || lacks_height(ne))
         return 6;
     *height = sw_weight * (sw % ELEVATIONS) + se_weight * (se % ELEVATIONS) + nw_weight * (nw % ELEVATIONS) + ne_weight * (ne % ELEVATIONS);
     if (code != NULL) {

@@ -229,7 +229,7 @@ static void draw_elevations(const struct file *file)
     }
 }
 
-/* Chooses the codes: one for all, drawn for every word from two to eight, or in stripes and patches. */
+/* Chooses the codes: one for all, drawn for every word from a choice of two to eight codes, or in stripes and patches. */
 static void draw_codes(void)
 {
     uint32_t kind = below(4);

@@ -68,21 +68,14 @@ bool weightless_missing(const struct rules_corner corners[4])
 static void tally_reading(const struct file *file, const struct question *q, uint32_t code)
 {
     struct rules_corner corners[4];
-    uint64_t sums[CODES] = {0};
-    bool tie = false;
     bool top = true;
     struct rules_file asked = opened(file, q->base, q->zone);
     rules_corners(asked, q->first, rules_taken(asked, q->first), corners);
-    for (int k = 0; k < 4; k++) {
-        sums[corners[k].code] += corners[k].weight;
+    for (int k = 0; k < 4; k++)
         top = top && (corners[k].weight == 0 || corners[k].elevation == RULES_NO_HEIGHT - 1);
-    }
-    for (uint32_t other = 0; other < CODES; other++)
-        tie = tie || (other != code && sums[other] == sums[code]);
     uint64_t word = rules_word(q->base, q->first);
     tally_vote(corners, code);
     count_if(weightless_missing(corners), WEIGHTLESS);
-    count_if(tie, TIE);
     count_if(top, TOP);
     count_if((word - 1) % 16 == 14, LAST_COLUMN);
     count_if((word - 1) / 16 == 30, LAST_ROW);

@@ -39,7 +39,6 @@
     K(ONE_POINT, "refusal 7 for Q = 0") \
     K(TOO_FAR, "refusal 7 for Q > 10,000,000,000") \
     K(WEIGHTLESS, "reading: weightless corner, no height") \
-    K(TIE, "reading: tie in the vote") \
     K(VOTE_ROWS, "vote: two codes, row by row") \
     K(VOTE_COLUMNS, "vote: two codes, column by column") \
     K(VOTE_CROSSWISE, "vote: two codes, crosswise") \

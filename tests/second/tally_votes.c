@@ -42,13 +42,23 @@ static void tally_two(uint32_t some)
     count_if(number_of(some) != 2, VOTE_THREE);
 }
 
-/* Whether a corner that does not weigh in has another code than this. */
+/* Whether a corner that does not weigh in has another code than this, one above 0: a corner that lies past the record stands as code 0. */
 static bool weightless_other(const struct rules_corner corners[4], uint64_t code)
 {
     bool any = false;
     for (int k = 0; k < 4; k++)
-        any = any || (corners[k].weight == 0 && corners[k].code != code);
+        any = any || (corners[k].weight == 0 && corners[k].code != code && corners[k].code != 0);
     return any;
+}
+
+/* The greatest weight of one of these corners, a bit for each. */
+static uint64_t heaviest_of(const struct rules_corner corners[4], uint32_t some)
+{
+    uint64_t weight = 0;
+    for (int k = 0; k < 4; k++)
+        if ((some & ONLY(k)) != 0 && corners[k].weight > weight)
+            weight = corners[k].weight;
+    return weight;
 }
 
 /* Counts how the corners of a reading vote for its code. */
@@ -57,7 +67,6 @@ void tally_vote(const struct rules_corner corners[4], uint64_t code)
     uint32_t weighing = 0;
     uint32_t tied = 0;
     int codes = 0;
-    uint64_t heaviest = 0;
     uint32_t winning = having(corners, code);
     for (uint64_t other = 0; other < CODES; other++) {
         uint32_t some = having(corners, other);
@@ -66,13 +75,11 @@ void tally_vote(const struct rules_corner corners[4], uint64_t code)
         if (weight_of(corners, some) == weight_of(corners, winning))
             tied |= some;
     }
-    for (int k = 0; k < 4; k++)
-        heaviest = corners[k].weight > corners[heaviest].weight ? (uint64_t)k : heaviest;
     int lines = number_of(weighing) == 4 ? 0 : number_of(weighing) == 2 ? 1 : 2;
     votes[lines][codes - 1]++;
     if (lines == 0 && codes == 2)
         tally_two(having(corners, corners[0].code));
-    count_if(corners[heaviest].code != code, VOTE_OUTVOTED);
+    count_if(heaviest_of(corners, winning) < heaviest_of(corners, weighing), VOTE_OUTVOTED);
     count_if(tied != winning && lines == 0, VOTE_TIE);
     count_if(tied != winning && lines == 1, VOTE_TIE_ON_LINE);
     count_if(tied != winning && (tied & -tied) != (winning & -winning), VOTE_TIE_LATER);

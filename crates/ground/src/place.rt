@@ -69,15 +69,18 @@ impl Place {
         }
     }
 
-    // The word of the south-west corner, w = 16 wy + wx + 1.
+    // The word of the south-west corner, w = 16 wy + wx + 1, for a place in a record. Row and column are put
+    // together in their own 32 bits, so that one number is widened and not two.
     pub fn word(self) -> usize
+        requires { ⌜ word self ≤ 512 ⌝ }
         ensures { λ r. ⌜ r ≡ word self ⌝ }
     {
-        Rectangle::WIDE * self.wy.0 as usize + self.wx.0 as usize + 1
+        (Rectangle::WIDE as u32 * self.wy.0 + self.wx.0) as usize + 1
     }
 
     // The words of the corners: w, w + 1, w + 16, w + 17.
     pub fn words(self) -> Words
+        requires { ⌜ word self ≤ 512 ⌝ }
         ensures { λ r. ⌜ r ≡ wordsOf self ⌝ }
     {
         let w = self.word();

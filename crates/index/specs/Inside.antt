@@ -31,8 +31,8 @@ pub record Walked (file : List ℕ) (M : ℕ) (marks : List Bool) (n : ℕ) : Ty
   pub passed : entriesPass file M n ≡ true
   pub marked : (r : ℕ) → 1 ≤ r → r ≤ 4096 → getD marks r false ≡ not (fresh file n r)
 
--- Where marking the numbers from position `from` on, four at a time, comes to: position r before the end, up to which all have been walked over; or 0,
--- and not all positions before the end pass.
+-- Where marking the numbers from position `from` on, four at a time, comes to: a position r, at most the end, before which all have been walked over;
+-- or 0, and then not all positions before the end pass.
 pub record PastRecords (file : List ℕ) (M from end : ℕ) (marks : List Bool) (r : ℕ) : Type 0 where
   pub goes : 0 < r → Walked file M marks r × ((from ≤ r) × (r ≤ end))
   pub stops : r ≡ 0 → entriesPass file M end ≡ false

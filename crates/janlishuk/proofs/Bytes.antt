@@ -1,10 +1,10 @@
--- What is read of a point, in bytes of the file and in document 01's letters: when it is refused with 5 and with 6, and else its height and its code. With the
--- sentences of `Document`, which say in which row and column of which record it is read, no definition between the bytes and the answer can be wrong in the
+-- When a file is refused, in bytes and numbers; and what is read of a point, in bytes of the file and in document 01's letters: when it is refused with 5 and
+-- with 6, and else its height and its code. With the sentences of `Document`, which say in which row and column of which record it is read, no definition between the bytes and the answer can be wrong in the
 -- same way as the program. From these, demand 2 and the laws of the record taken. Assumes nothing.
 use mathlib.Core.Path.{_≡_, refl, sym, _∙_, ap}
 use mathlib.Core.Logic.{_⊎_, ⊎-elim, _↔_}
 use mathlib.Core.Bool.{Bool, true, false, cond, false≢true}
-use mathlib.Core.List.{List}
+use mathlib.Core.List.{List, [], _∷_}
 use Prim.Native.Nat.{ℕ, zero, suc, _+_, _-_, _*_, _/_, _%_, _≤_, _<_}
 use native.Mathlib.Nat.{zero-mul}
 use native.Mathlib.Omega.{arith}
@@ -33,13 +33,43 @@ use Rattle.reading.specs.declared.point.Reading.{Reading}
 use Rattle.reading.specs.declared.point.ReadAnswer.{ReadAnswer}
 use Rattle.reading.proofs.Laws.Corner.{corner-lacks}
 use Rattle.reading.proofs.Laws.Reading.{some-lacks, at-place}
-use Rattle.reading.proofs.Laws.Vote.{greatest-by}
-use Rattle.janlishuk.specs.Order.{OnGround, placed}
+use Rattle.reading.proofs.Laws.Vote.{no-weight, greatest-by}
+use Rattle.janlishuk.specs.Order.{FirstOf, OnGround, placed, no}
 use Rattle.janlishuk.specs.Promise.{Checks, Reads}
-use Rattle.janlishuk.proofs.Laws.Line.{was-given}
-use Rattle.janlishuk.proofs.Laws.Order.{on-ground, file-order}
+use Rattle.janlishuk.proofs.Laws.Line.{was-given, first-of, in-words, unlike}
+use Rattle.janlishuk.proofs.Laws.Order.{on-ground, file-order, reading-order}
 use Rattle.janlishuk.proofs.Demand2.{reading-is-mean}
-use Rattle.janlishuk.proofs.Document.{fx, fy, corner-weights, at, standing, NoneCovered, uncovered-means}
+use Rattle.janlishuk.proofs.Document.{fx, fy, corner-weights, at, standing, NoneCovered, uncovered-means, Long, whole-means, Rules, passes-means, NamedIn, named-means, Grounded, ground-means}
+
+-- "1: the length is not 1024 times a number from 6 to 4096. 2: base or zone is not one of those named. 3: M or a position breaks the rules": the first of these
+-- that holds, in bytes and numbers, gives its number, and the place 0
+pub check-refuses : (file after : List ℕ) (b z : ℕ) (c : CheckAnswer) → Checks file after b z c
+    → FirstOf (no 1 (Long file → ⊥) ∷ no 2 (NamedIn b z → ⊥) ∷ no 3 (Rules file b → ⊥) ∷ []) (c .refusal) (c .place)
+check-refuses file after b z c checks =
+    rw (checks .0) (
+    in-words (unlike (whole-means file)) (in-words (unlike (named-means b z)) (in-words (unlike (passes-means file b)) λ none. none))
+    (first-of (file-order file b z))
+    )
+
+-- and of a point after these "4: the point is not of the file's zone or not on its ground. 5: none of the rectangles that it may be read from is covered. 6: a
+-- corner that weighs in has no height"
+pub read-refuses : (file after : List ℕ) (b z : ℕ) (p : Point) (r : ReadAnswer) → Reads file after b z p r → FirstOf
+    (no 1 (Long file → ⊥)
+    ∷ no 2 (NamedIn b z → ⊥)
+    ∷ no 3 (Rules file b → ⊥)
+    ∷ no 4 (Grounded b z p → ⊥)
+    ∷ no 5 (NoneCovered file b z p)
+    ∷ no 6 (SomeLacks file (placed b z p))
+    ∷ [])
+    (r .refusal) (r .place)
+read-refuses file after b z p r reads =
+    rw (reads .0) (
+    in-words (unlike (whole-means file)) (
+    in-words (unlike (named-means b z)) (
+    in-words (unlike (passes-means file b)) (
+    in-words (unlike (ground-means b z p)) (in-words (uncovered-means file b z p) λ six. six))))
+    (first-of (reading-order file b z p))
+    )
 
 -- the word in this row and column of rectangle n, 16 words a row, in the record that its position names, high byte first
 abbrev pub stored : List ℕ → (n row column : ℕ) → ℕ
@@ -70,11 +100,6 @@ lacks-in-bytes file r w k weight v within =
 part : (add : (word weight : ℕ) → ℕ) → ((word : ℕ) → add word 0 ≡ 0) → (word word′ weight : ℕ) → (0 < weight → word ≡ word′) → add word weight ≡ add word′ weight
 part add none word word′ zero same = none word ∙ sym (none word′)
 part add none word word′ (suc k) same = ap (λ (v : ℕ). add v (suc k)) (same (omega arith))
-
--- a corner of no weight adds none to the sum of a code
-no-weight : (of : Bool) → _≡_ {A = ℕ} (cond of 0 0) 0
-no-weight true = refl
-no-weight false = refl
 
 -- a reading from a record taken is refused with 6 exactly if a corner lacks a height, and never with 5
 record SixOnly (number : ℕ) (lacks : Bool) : Type 0 where

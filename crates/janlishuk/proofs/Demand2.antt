@@ -34,7 +34,7 @@ use Rattle.link.proofs.Laws.Rounding.{exactly-clear}
 use Rattle.link.proofs.Laws.Demands.{clear-exactly, verdict-given}
 use Rattle.janlishuk.specs.Order.{OnGround, placed}
 use Rattle.janlishuk.specs.Promise.{Checks, Reads, Profiles, Judges, Plans, GivesRow}
-use Rattle.janlishuk.specs.Demand.{sampleAt, heightAt, codeAt, FollowsSamples, FollowsTest, ExactlyClear}
+use Rattle.janlishuk.specs.Demand.{sampleAt, FollowsSamples, FollowsTest, ExactlyClear}
 use Rattle.janlishuk.proofs.Laws.Line.{was-given}
 use Rattle.janlishuk.proofs.Laws.Order.{on-ground, file-order, reading-order, profile-order, verdict-order, plan-order, row-order}
 

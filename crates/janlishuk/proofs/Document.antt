@@ -407,12 +407,18 @@ unfolding named
 named-bounds = (refl, refl, refl, refl, refl, refl, refl, refl)
 
 -- 2: "base or zone not among those named", in numbers
-pub named-means : (b z : ℕ) → IsNamed b z ↔ ((b ≡ 4 * (b / 4)) × (b ≤ 80) × (1 ≤ z) × (z ≤ 60))
+abbrev pub NamedIn : (b z : ℕ) → Type 0
+NamedIn b z = (b ≡ 4 * (b / 4)) × (b ≤ 80) × (1 ≤ z) × (z ≤ 60)
+
+pub named-means : (b z : ℕ) → IsNamed b z ↔ NamedIn b z
 named-means b z = ((λ n. (n .fours, n .most, n .first, n .last)), λ n. record { fours = n .0; most = n .1; first = n .2; last = n .3 })
 
 -- 4: the point is "of the file's zone and on its ground", in numbers
-pub ground-means : (b z : ℕ) (p : Point) → OnGround b z p
-    ↔ ((p .zone ≡ z) × (125000 ≤ p .easting .0) × (p .easting .0 ≤ 874999) × (500 * yB b .0 ≤ p .northing .0) × (p .northing .0 < 500 * yB (b + 4) .0))
+abbrev pub Grounded : (b z : ℕ) → Point → Type 0
+Grounded b z p =
+    (p .zone ≡ z) × (125000 ≤ p .easting .0) × (p .easting .0 ≤ 874999) × (500 * yB b .0 ≤ p .northing .0) × (p .northing .0 < 500 * yB (b + 4) .0)
+
+pub ground-means : (b z : ℕ) (p : Point) → OnGround b z p ↔ Grounded b z p
 ground-means b z p = (
   (λ n. (n .zone, n .west, n .east, n .south, n .north)),
   λ n. record { zone = n .0; west = n .1; east = n .2; south = n .3; north = n .4 },

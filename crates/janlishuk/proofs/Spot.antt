@@ -11,7 +11,6 @@ use native.Mathlib.Omega.{arith}
 use lib.Dec.{eqb}
 use lib.ListN.{length, getD}
 use Rattle.ground.specs.Outcome.{given}
-use Rattle.ground.specs.Boundary.{yB}
 use Rattle.ground.specs.Place.{number, placeAt, placeOf}
 use Rattle.ground.specs.declared.point.Point.{Point}
 use Rattle.ground.specs.declared.place.Place.{Place}
@@ -33,10 +32,10 @@ use Rattle.spot.proofs.Laws.Looks as looks
 use Rattle.spot.proofs.Laws.Looks.{Alike}
 use Rattle.janlishuk.specs.Order.{FirstOf, OnGround, placed, no}
 use Rattle.janlishuk.specs.Promise.{Checks, Reads, Spots}
-use Rattle.janlishuk.proofs.Laws.Line.{was-given, first-of, in-words}
+use Rattle.janlishuk.proofs.Laws.Line.{was-given, first-of, in-words, unlike}
 use Rattle.janlishuk.proofs.Laws.Order.{file-order, spot-order}
 use Rattle.janlishuk.proofs.Demand2.{read-exactly, reading-is-mean}
-use Rattle.janlishuk.proofs.Document.{fx, fy, corner-weights, at, standing, Looked, looked-means, own-position, Long, whole-means, named-means, highest-means, ground-means, NamesNone, names-none-means, NoneCovered, uncovered-means}
+use Rattle.janlishuk.proofs.Document.{fx, fy, corner-weights, at, standing, Looked, looked-means, own-position, Long, whole-means, NamedIn, named-means, highest-means, Grounded, ground-means, NamesNone, names-none-means, NoneCovered, uncovered-means}
 use Rattle.janlishuk.proofs.Bytes.{over, mean-height, mean-code}
 
 module _ (file after : List ℕ) (b z : ℕ) (p : Point) (s : ReadAnswer) (spots : Spots file after b z p s) where
@@ -62,16 +61,9 @@ module _ (file after : List ℕ) (b z : ℕ) (p : Point) (s : ReadAnswer) (spots
   -- holds, in bytes and numbers, gives its number, and the place 0
   pub spot-refuses : FirstOf
       (no 1 (Long file → ⊥)
-      ∷ no 2 ((b ≡ 4 * (b / 4)) × (b ≤ 80) × (1 ≤ z) × (z ≤ 60) → ⊥)
+      ∷ no 2 (NamedIn b z → ⊥)
       ∷ no 3 ((6 ≤ at file 3072) × (at file 3072 ≤ length file / 1024) → ⊥)
-      ∷ no 4 (
-      (p .zone ≡ z)
-      × (125000 ≤ p .easting .0)
-      × (p .easting .0 ≤ 874999)
-      × (500 * yB b .0 ≤ p .northing .0)
-      × (p .northing .0 < 500 * yB (b + 4) .0)
-      → ⊥
-      )
+      ∷ no 4 (Grounded b z p → ⊥)
       ∷ no 3 (NamesNone file b z p)
       ∷ no 5 (NoneCovered file b z p)
       ∷ no 6 (SomeLacks file (placed b z p))
@@ -87,9 +79,6 @@ module _ (file after : List ℕ) (b z : ℕ) (p : Point) (s : ReadAnswer) (spots
       in-words (uncovered-means file b z p) λ six. six)))))
       (first-of (spot-order file b z p))
       )
-    where
-      unlike : {A B : Type 0} → A ↔ B → (A → ⊥) ↔ (B → ⊥)
-      unlike e = ((λ n c. n (e .1 c)), λ n c. n (e .0 c))
 
   -- In any file a spot that is read is the mean of the record that its entry names, a record from 7 to M whose rectangle's grid holds the point.
   pub spot-follows : s .refusal ≡ 0 → SpotIsMean file b z p (record { height = s .height; code = s .code })

@@ -18,7 +18,7 @@ use Rattle.survey.proofs.Laws.Lists.{ListsFit, fit-passes, unfit-found, all-lon
 use Rattle.survey.proofs.Laws.Survey.{file-refused, lists-refused, lists-given, IsUpload, upload-is}
 use Rattle.janlishuk.specs.Order.{FirstOf, OnGround, placed, ofPoint, ofUpload}
 use Rattle.janlishuk.specs.Promise.{Checks, Uploads}
-use Rattle.janlishuk.specs.Demand.{EntryIs, EntryStays, FollowsReadings}
+use Rattle.janlishuk.specs.Demand.{EntryIs, FollowsReadings}
 use Rattle.janlishuk.proofs.Laws.Line.{first-of, was-given}
 use Rattle.janlishuk.proofs.Laws.Order.{file-order, point-order, upload-order}
 use Rattle.janlishuk.proofs.Demand2.{read-exactly, reading-is-mean}

@@ -22,10 +22,11 @@ use Rattle.reading.specs.declared.vote.Sum.{Sum}
 abbrev pub EachCorner : (Corner → Type 0) → Corners → Type 0
 EachCorner P c = Each P (c .sw) (c .se) (c .nw) (c .ne)
 
--- Two numbers of 16 bits are held as one, 65536 times the first plus the second:
+-- two numbers of 16 bits are held as one, 65536 times the first plus the second: this is the first
 abbrev pub first : ℕ → ℕ
 first n = n / 65536
 
+-- and this the second
 abbrev pub second : ℕ → ℕ
 second n = n % 65536
 
@@ -54,16 +55,17 @@ pub record EdgeOf (bytes : List ℕ) (v w : ℕ) (e : Edge) : Type 0 where
   pub first : first (e .0) ≡ nth bytes v
   pub second : second (e .0) ≡ nth bytes w
 
--- a point on a grid line: fx or fy is 0, and the corners that weigh in are words of the record
+-- a point on a grid line: fx or fy is 0, both are below 500, and the corners that weigh in are words of the record
 pub record OnLine (bytes : List ℕ) (s : Place) : Type 0 where
   pub x : s .fx .0 ≤ 499
   pub y : s .fy .0 ≤ 499
   pub line : (s .fx .0 ≡ 0) ⊎ (s .fy .0 ≡ 0)
+  pub word : wordsOf s .sw ≤ 512
   pub sw : 2 * wordsOf s .sw ≤ length bytes
   pub se : 0 < s .fx .0 → 2 * wordsOf s .se ≤ length bytes
   pub nw : 0 < s .fy .0 → 2 * wordsOf s .nw ≤ length bytes
 
--- the edge has the word of the south-west corner and, where it weighs in, that of the next one on the line, to the north or to the east
+-- the edge has the word of the south-west corner, and that of the next one on the line, to the north or to the east, where it weighs in, else 0
 pub record EdgeUnder (bytes : List ℕ) (s : Place) (e : Edge) : Type 0 where
   pub first : first (e .0) ≡ nth bytes (wordsOf s .sw)
   pub next :
@@ -75,7 +77,7 @@ pub record ElevationsOf (e : Edge) (h : Elevations) : Type 0 where
   pub first : first (h .0) ≡ elevationOf (first (e .0))
   pub second : second (h .0) ≡ elevationOf (second (e .0))
 
--- both are what a word can say
+-- both elevations are such as a word can say, at most 8191
 pub record Heights (h : Elevations) : Type 0 where
   pub first : first (h .0) ≤ 8191
   pub second : second (h .0) ≤ 8191
@@ -106,7 +108,7 @@ cornersAround s n k =
       ne = said (second (n .0)) (k .ne);
     }
 
--- the corners around a point f metres to the east along an edge
+-- the corners around a point f metres to the east along an edge; those of a point f metres to the north are read alike (`Laws/Edge`)
 abbrev pub cornersAlong : Edge → ℕ → Corners
 cornersAlong e f =
     record { sw = said (first (e .0)) (500 * (500 - f)); se = said (second (e .0)) (500 * f); nw = weightless; ne = weightless }
@@ -155,7 +157,7 @@ pub record Fit (l : List Sum) : Type 0 where
   pub coded : Coded l
   pub light : weightOf l ≤ 250000
 
--- m is the rank of one of the eight codes with no more than sums weigh for it
+-- m is the rank of some sum, whose code is one of the eight, and which is no heavier than what these sums weigh for that code
 pub record Reached (l : List Sum) (m : ℕ) : Type 0 where
   pub best : Sum
   pub within : best .code ≤ 7

@@ -32,7 +32,7 @@ pointIn file t p = recordIn file t p andThen readTaken file
 unfoldable pub reading : List ℕ → ℕ → ℕ → Point → Outcome Reading
 reading file b z p = checked file b z andThen λ t. pointIn file t p
 
--- the answer of `janlishuk_read` as the caller gets it
+-- the answer to a point as the caller gets it, of a reading, of a spot and of each point of a survey
 abbrev pub readAnswer : Outcome Reading → ReadAnswer
 readAnswer o =
     let r : Reading = filledBy (record { height = 0; code = 0 }) o in

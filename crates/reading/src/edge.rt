@@ -15,10 +15,11 @@ use terrain::word::NO_HEIGHT;
 // Two numbers of 16 bits are held as one: this times the first, plus the second.
 const PER_FIRST: u32 = 65536;
 
-// What no elevation reaches but 8191 with 1 added, at the second end of an edge.
+// With 1 added, of all elevations 8191 alone reaches this. It is the bit that is asked for at the second
+// end of an edge.
 const SECOND_PAST: u32 = NO_HEIGHT + 1;
 
-// The same at the first end.
+// The bit that is asked for at the first end of an edge, which stands 65536 times higher.
 const FIRST_PAST: u32 = PER_FIRST * SECOND_PAST;
 
 // The words at the two ends of an edge, as one number.
@@ -34,7 +35,8 @@ fn wide(byte: u8) -> u32
     byte as u32
 }
 
-// Four bytes as one number, low byte first: the order in which a processor takes them all at once.
+// The four bytes from `at` on as one number, low byte first: the order in which an x86-64 processor takes
+// all four at once.
 fn four_from(bytes: &[u8], at: usize) -> u32
     requires { ⌜ at + 4 ≤ length (now bytes) ⌝ }
     ensures { λ r. ⌜ FourFrom (now (bytes .entry)) at r ⌝ }
@@ -83,8 +85,8 @@ impl Edge {
         Edge(turned(four_from(bytes, 2 * (w - 1))))
     }
 
-    // The edge under a point of a grid line, from its south-west corner to the next one on the line. The
-    // word of that one is looked at where it weighs in.
+    // The edge under a point of a grid line, from its south-west corner to the next one: to the north where
+    // fx is 0, else to the east. The word of that one is looked at where it weighs in, else 0 stands for it.
     pub(crate) fn under(bytes: &[u8], place: Place) -> Edge
         requires { ⌜ OnLine (now bytes) place ⌝ }
         ensures { λ r. ⌜ EdgeUnder (now (bytes .entry)) place r ⌝ }

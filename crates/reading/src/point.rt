@@ -75,8 +75,8 @@ fn read_along(edge: Edge, f: u32) -> ReadAnswer
     )
 }
 
-// The reading between two edges, or refusal 6. Its height is that from one to the other of the heights
-// along the two.
+// The reading of a point between two edges, or refusal 6. Its height lies fy metres from the height along
+// the southern edge to that along the northern one.
 fn read_between(south: Edge, north: Edge, place: Place) -> ReadAnswer
     requires { ⌜ Measured place ⌝ }
     ensures { λ r. ⌜ r ≡ readAnswer (readCorners (cornersAround south north (place .weights))) ⌝ }

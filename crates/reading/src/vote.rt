@@ -47,7 +47,7 @@ fn greater(a: u32, b: u32) -> u32
     if a < b { b } else { a }
 }
 
-// The highest rank of two sums, which are one where they have one code.
+// The highest rank of two sums, which count as one where they have one code.
 fn best_of_two(a: Sum, b: Sum) -> u32
     requires { ⌜ Fit (a ∷ b ∷ []) ⌝ }
     ensures { λ r. ⌜ Top (a ∷ b ∷ []) r ⌝ }
@@ -58,7 +58,7 @@ fn best_of_two(a: Sum, b: Sum) -> u32
     greater(a.rank(), b.rank())
 }
 
-// The highest rank of three sums, of which those with one code are one.
+// The highest rank of three sums, of which those with one code count as one.
 fn best_of_three(a: Sum, b: Sum, c: Sum) -> u32
     requires { ⌜ Fit (a ∷ b ∷ c ∷ []) ⌝ }
     ensures { λ r. ⌜ Top (a ∷ b ∷ c ∷ []) r ⌝ }
@@ -72,7 +72,7 @@ fn best_of_three(a: Sum, b: Sum, c: Sum) -> u32
     greater(a.rank(), best_of_two(b, c))
 }
 
-// The highest rank of four sums, of which those with one code are one.
+// The highest rank of four sums, of which those with one code count as one.
 fn best_of_four(a: Sum, b: Sum, c: Sum, d: Sum) -> u32
     requires { ⌜ Fit (a ∷ b ∷ c ∷ d ∷ []) ⌝ }
     ensures { λ r. ⌜ Top (a ∷ b ∷ c ∷ d ∷ []) r ⌝ }
@@ -105,8 +105,8 @@ pub(crate) fn nearer(f: u32, from: u32, to: u32) -> u32
 }
 
 // The surface code with the greatest sum of weights, ties to the smaller code, of a point between two
-// edges. Where these have the same codes, or each has one, the point lies between two codes, and nothing
-// is added up; else the corners of one code are, and the highest rank tells the code.
+// edges. Where these have the same code at the same ends, or each has one code, the point lies between two
+// codes, and nothing is added up; else the corners of one code are, and the highest rank tells the code.
 pub(crate) fn vote(south: Edge, north: Edge, place: Place) -> u32
     requires { ⌜ Measured place ⌝ }
     ensures { λ r. ⌜ r ≡ vote (cornersAround south north (place .weights)) ⌝ }

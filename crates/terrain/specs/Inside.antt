@@ -33,13 +33,13 @@ InIndex file n = (n < 3072) × (indexBytes ≤ length file)
 abbrev pub entryWhere : List ℕ → Bool → ℕ → ℕ
 entryWhere file c n = cond c (entry file n) 0
 
--- the weights at a place are those of a point fx and fy metres past its south-west corner
+-- fx and fy are below 500, and the weights are those of a point that far past the south-west corner
 pub record Measured (s : Place) : Type 0 where
   pub x : s .fx .0 ≤ 499
   pub y : s .fy .0 ≤ 499
   pub weights : s .weights ≡ weightsOf (s .fx) (s .fy)
 
--- The record that a point is read from lies in the file past the index, and the corners that weigh in are words of it.
+-- The record that a point is read from lies in the file past the index, the corners that weigh in are words of it, and the place has its own weights.
 pub record Reaches (file : List ℕ) (t : Taken) : Type 0 where
   pub past : 7 ≤ t .entry
   pub recorded : 1024 * t .entry ≤ length file

@@ -9,7 +9,7 @@ use lib.Dec.{eqb}
 use lib.ListN.{getD, set}
 use borrow.Author.Tests.{eqb-true, eqb-false, not-true, not-false}
 use Rattle.index.specs.Index.{isRecord}
-use Rattle.index.specs.Inside.{Walked, FourAre, Marking, RecordAt, FourRecords, NumberAt, FourAt}
+use Rattle.index.specs.Inside.{FourAre, Marking, RecordAt, FourRecords, NumberAt, FourAt}
 use Rattle.index.specs.declared.marks.Four.{Four}
 use Rattle.index.proofs.Laws.Walk.{walk-zero, walk-one, entries-fail, marked-fails, stray-fails, from-7-to-M}
 

@@ -1,6 +1,6 @@
 -- Demand 1 from the one entry of a call: what its contract is, what it comes to and in which order it refuses, and how its answer shows that. From the laws
 -- of lines. Assumes nothing.
-use mathlib.Core.Path.{_≡_, refl, sym, _∙_}
+use mathlib.Core.Path.{_≡_, sym, _∙_}
 use mathlib.Core.List.{List, [], _∷_}
 use Prim.Native.Nat.{ℕ}
 use Rattle.ground.specs.Outcome.{Outcome, given, refused, refusalNumber, refusalPlace}

@@ -100,3 +100,7 @@ some-of {A} {ls} {o} i = ((λ none. holds ls (i .refuses) none), λ s a e. fails
 pub in-words : {C D E R S : Type 0} → C ↔ D → (R → S) → (C × E) ⊎ ((C → ⊥) × R) → (D × E) ⊎ ((D → ⊥) × S)
 in-words same rest (inl h) = inl (same .0 (h .0), h .1)
 in-words same rest (inr h) = inr ((λ d. h .0 (same .1 d)), rest (h .1))
+
+-- that something does not hold, in other words
+pub unlike : {A B : Type 0} → A ↔ B → (A → ⊥) ↔ (B → ⊥)
+unlike e = ((λ n c. n (e .1 c)), λ n c. n (e .0 c))

@@ -1,5 +1,4 @@
 -- `plan` meets its contract: the pair that `plan_of` found for the link that was given, or that there is none. Assumes nothing.
-use mathlib.Core.Path.{sym}
 use borrow.Author.Needs.{needs}
 use Rattle.profile.specs.Profile.{zeros}
 use Rattle.masts.specs.Plan.{plannedMeans}

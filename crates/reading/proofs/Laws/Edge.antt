@@ -5,7 +5,7 @@ use mathlib.Core.Logic.{_⊎_, ⊎-elim}
 use mathlib.Core.Bool.{or-false}
 use mathlib.Core.List.{List}
 use Prim.Native.Nat.{ℕ, zero, suc, _+_, _-_, _*_, _≤_, _<_}
-use native.Mathlib.Nat.{mul-pos, mul-le-mul-left}
+use native.Mathlib.Nat.{add-mul, mul-pos, mul-le-mul-left}
 use native.Mathlib.Omega.{arith}
 use borrow.Author.Tests.{ne-eqb}
 use lib.ListN.{length}
@@ -22,7 +22,7 @@ use Rattle.terrain.specs.Word.{elevationOf}
 use Rattle.reading.specs.Corner.{Corners, corner, cornersAt, anyLacksHeight, exactHeight}
 use Rattle.reading.specs.Vote.{sumFor, vote}
 use Rattle.reading.specs.Reading.{readCorners}
-use Rattle.reading.specs.Inside.{first, second, EdgeOf, OnLine, EdgeUnder, wordWhere, between, mostBetween, said, weightless, cornersAround, cornersAlong}
+use Rattle.reading.specs.Inside.{first, second, EdgeOf, OnLine, EdgeUnder, wordWhere, between, said, weightless, cornersAround, cornersAlong}
 use Rattle.reading.specs.declared.edge.Edge.{Edge}
 use Rattle.reading.proofs.Laws.Corner.{corner-says, by-each}
 use Rattle.reading.proofs.Laws.Vote.{greatest-only, greatest-by, vote-is}
@@ -66,6 +66,10 @@ module _ {file : List ℕ} {t : Taken} (reaches : Reaches file t) where
   long : length bytes ≡ 1024
   long = record-long file (t .entry) (omega (arith, reaches .past)) (reaches .recorded)
 
+  -- the south-west corner always weighs in, and its word is one of the record's
+  pub word-in : word (t .place) ≤ 512
+  word-in = (rw (m .weights) at (reaches .words)) .sw .1 (sw-weighs fx fy (m .x) (m .y))
+
   -- on a grid line, the words of the corners that weigh in
   pub line-in : (fx .0 ≡ 0) ⊎ (fy .0 ≡ 0) → OnLine bytes (t .place)
   line-in line =
@@ -74,7 +78,8 @@ module _ {file : List ℕ} {t : Taken} (reaches : Reaches file t) where
         x = m .x;
         y = m .y;
         line = line;
-        sw = omega (arith, words .sw .1 (sw-weighs fx fy (m .x) (m .y)), long);
+        word = word-in;
+        sw = omega (arith, word-in, long);
         se = λ h. omega (arith, words .se .1 (se-weighs fx fy (m .x) (m .y) h), long);
         nw = λ h. omega (arith, words .nw .1 (nw-weighs fx fy (m .x) (m .y) h), long);
       }
@@ -106,13 +111,11 @@ around-is bytes w south north k weigh =
     (corner-says bytes (w .nw) (k .nw) (weigh .nw))
     (corner-says bytes (w .ne) (k .ne) (weigh .ne)))
 
--- the height along an edge fits
-pub along-fits : (f from to : ℕ) → f ≤ 500 → from ≤ 8191 → to ≤ 8191 → between f from to ≤ 4095500
-along-fits f from to h a b = omega (arith, mul-le-mul-left (500 - f) a, mul-le-mul-left f b)
-
--- the height between two heights along edges fits
-pub between-fits : (f from to : ℕ) → f ≤ 500 → from ≤ 4095500 → to ≤ 4095500 → between f from to ≤ mostBetween
-between-fits f from to h a b = omega (arith, mul-le-mul-left (500 - f) a, mul-le-mul-left f b)
+-- a height between two is at most 500 times what both are
+pub between-most : (f from to most : ℕ) → f ≤ 500 → from ≤ most → to ≤ most → between f from to ≤ 500 * most
+between-most f from to most h a b =
+    let whole : 500 - f + f ≡ 500 = omega arith in
+    omega (arith, mul-le-mul-left (500 - f) a, mul-le-mul-left f b, simp add-mul at (ap (λ (t : ℕ). t * most) whole))
 
 -- the height of a point between two edges is that between the heights along them
 pub height-between : (s n : Edge) (p : Place) → Measured p → (

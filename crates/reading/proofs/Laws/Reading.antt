@@ -18,7 +18,7 @@ use Rattle.ground.specs.declared.place.Weights.{Weights}
 use Rattle.ground.specs.declared.point.Point.{Point}
 use Rattle.ground.proofs.Laws.Outcome.{past, step, assoc}
 use Rattle.ground.proofs.Laws.Test.{either}
-use Rattle.ground.proofs.Laws.Place.{weighs, each}
+use Rattle.ground.proofs.Laws.Place.{each}
 use Rattle.index.specs.Bytes.{nth, recordBytes}
 use Rattle.index.proofs.Laws.Bytes.{record-long}
 use Rattle.terrain.specs.Check.{checked, Gave}
@@ -36,7 +36,7 @@ use Rattle.reading.specs.Demand.{HasHeight, LiesBetween, mean, codeSum, 
 use Rattle.reading.specs.Inside.{EachCorner}
 use Rattle.reading.specs.declared.point.Reading.{Reading}
 use Rattle.reading.proofs.Laws.Corner.{corner-weight, corner-lacks, corner-part, lacks-none, corner-between, HeightWithin, height-within}
-use Rattle.reading.proofs.Laws.Vote.{greatest-by, corner-for, vote-is}
+use Rattle.reading.proofs.Laws.Vote.{weigh, greatest-by, corner-for, vote-is}
 
 -- From the words of a record to the corners that the definitions speak of, and back.
 module _ (bytes : List ℕ) (w : Words) (weights : Weights) where
@@ -98,17 +98,15 @@ module _ (file : List ℕ) (t : Taken) (is : t .entry ≡ entry file (rectangleO
       let weights = t .place .weights in
       let between = mean-within bytes w weights in
       let heights = heights-are bytes w weights .0 (q .0) in
-      let m = reaches .measured in
-      let all : weights .sw + weights .se + (weights .nw + weights .ne) ≡ 250000 =
-      rw (m .weights) (weighs (t .place .fx) (t .place .fy) (omega (arith, m .x)) (omega (arith, m .y)) .all) in
+      let all = weigh (t .place) (reaches .measured) .all in
       subst (λ (x : Reading). Mean file t x) i (record {
         height = rw (← is) (mean-is bytes w weights);
         named = is;
         past = reaches .past;
         long = record-long file (t .entry) (omega (arith, reaches .past)) (reaches .recorded);
         corners = each (λ x f l. (f .0, f .1 l)) (reaches .words);
-        within = λ lo hi a. let x = between lo hi (all) (rw (← is) at a) in (x .least, x .most);
-        most = between 0 8190 (all) (each (λ x f l. omega (arith, f l)) heights) .most;
+        within = λ lo hi a. let x = between lo hi all (rw (← is) at a) in (x .least, x .most);
+        most = between 0 8190 all (each (λ x f l. omega (arith, f l)) heights) .most;
         code = greatest-by (λ n l. rw (← is) (sum-is bytes w weights n)) (vote-is (cornersOf file t));
       })
 

@@ -75,14 +75,14 @@ unfolding vote
 vote-is c = greatest-is (sumFor c) 7
 
 -- weight 0 is weight 0 for every code
-same : (t : Bool) → _≡_ {A = ℕ} (cond t 0 0) 0
-same true = refl
-same false = refl
+pub no-weight : (t : Bool) → _≡_ {A = ℕ} (cond t 0 0) 0
+no-weight true = refl
+no-weight false = refl
 
 -- a corner weighs for a code its weight if its word has the code, looked at or not
 pub corner-for : (bytes : List ℕ) (code w weight : ℕ) → weightFor code (corner bytes w weight) ≡ cond (eqb (codeOf (nth bytes w)) code) weight 0
 unfolding corner
-corner-for bytes code w zero = same (eqb 0 code) ∙ sym (same (eqb (codeOf (nth bytes w)) code))
+corner-for bytes code w zero = no-weight (eqb 0 code) ∙ sym (no-weight (eqb (codeOf (nth bytes w)) code))
 corner-for bytes code w (suc n) = rw eqb·suc-zero
 
 -- a sum weighs all of it for its own code
@@ -131,7 +131,7 @@ pub top-joined : (s t : Sum) (l o : List Sum) {m : ℕ} → s .code ≡ t .code 
     → Top (joined s t ∷ l) m → Top (s ∷ o) m
 top-joined s t l o e with = top-by (λ code. omega (arith, as-one s t e code, with code))
 
--- The law of the vote: a sum whose code no other has is ranked by itself, so the greatest of the eight sums is found among the codes of the sums.
+-- a sum whose code no other has is ranked by itself: the highest rank is its own, or that of the others
 pub top-more : (s : Sum) (l : List Sum) (m : ℕ) → s .code ≤ 7 → sumIn l (s .code) ≡ 0 → Top l m → Top (s ∷ l) (larger (rankOf s) m)
 top-more s l m within alone t =
     let r = t .reached in
@@ -254,12 +254,12 @@ two-codes : (from to f k : ℕ) (v w x y : ℕ) → v + x ≡ 500 * (500 - f) �
     → 500 * sumIn (fromTo f from to) k ≡ cond (eqb from k) v 0 + cond (eqb to k) w 0 + cond (eqb from k) x 0 + cond (eqb to k) y 0
 two-codes from to f k v w x y h g = omega (arith, both (eqb from k) v x (500 - f) h, both (eqb to k) w y f g)
 
+-- the weights at a place make 500 times fx in the east, 500 times fy in the north, and 250,000 together
+pub weigh : (p : Place) → Measured p → Weighs (p .fx) (p .fy) (p .weights)
+weigh p m = rw (m .weights) (weighs (p .fx) (p .fy) (omega (arith, m .x)) (omega (arith, m .y)))
+
 -- Of a point between two edges
 module _ (s n : Edge) (p : Place) (m : Measured p) where
-  -- the weights, which make 500 times fx in the east and 500 times fy in the north
-  weigh : Weighs (p .fx) (p .fy) (p .weights)
-  weigh = rw (m .weights) (weighs (p .fx) (p .fy) (omega (arith, m .x)) (omega (arith, m .y)))
-
   -- the codes of the four corners
   abbrev sw : ℕ
   sw = codeOf (first (s .0))
@@ -282,7 +282,7 @@ module _ (s n : Edge) (p : Place) (m : Measured p) where
       vote-by (cornersAround s n k) (fromTo (p .fx .0) sw se) 500 (omega arith)
       λ c.
       rw (← eqb-true sw nw (t .0), ← eqb-true se ne (t .1))
-      (two-codes sw se (p .fx .0) c (k .sw) (k .se) (k .nw) (k .ne) (omega (arith, weigh .east, weigh .all, m .x)) (omega (arith, weigh .east)))
+      (two-codes sw se (p .fx .0) c (k .sw) (k .se) (k .nw) (k .ne) (omega (arith, weigh p m, m .x)) (omega (arith, weigh p m)))
 
   -- where each edge has one code, it is between south and north
   pub rows-vote : {code : ℕ} → eqb sw se ≡ true → eqb nw ne ≡ true → Decides (fromTo (p .fy .0) sw nw) code → code ≡ vote (cornersAround s n (p .weights))
@@ -291,7 +291,7 @@ module _ (s n : Edge) (p : Place) (m : Measured p) where
       let k = p .weights in
       vote-by (cornersAround s n k) (fromTo (p .fy .0) sw nw) 500 (omega arith)
       λ c.
-      let sums = two-codes sw nw (p .fy .0) c (k .sw) (k .nw) (k .se) (k .ne) (omega (arith, weigh .north, weigh .all, m .y)) (omega (arith, weigh .north)) in
+      let sums = two-codes sw nw (p .fy .0) c (k .sw) (k .nw) (k .se) (k .ne) (omega (arith, weigh p m, m .y)) (omega (arith, weigh p m)) in
       rw (← eqb-true sw se south, ← eqb-true nw ne north) (omega (arith, sums))
 
 -- on an edge the two codes at its ends decide
@@ -303,7 +303,7 @@ along-vote e f =
     vote-by (cornersAlong e f) (fromTo f from to) 500 (omega arith)
     λ k.
     let sums = two-codes from to f k (500 * (500 - f)) (500 * f) 0 0 (omega arith) (omega arith) in
-    omega (arith, sums, same (eqb from k), same (eqb to k), same (eqb 0 k))
+    omega (arith, sums, no-weight (eqb from k), no-weight (eqb to k), no-weight (eqb 0 k))
 
 -- one of the sums has the code, and weighs something
 abbrev pub SomeHas : List Sum → ℕ → Type 0
@@ -321,7 +321,7 @@ some-has (s ∷ l) code h = go (eqb (s .code) code) refl (decLt 0 (s .weight)) (
     go true e (no none) rest h = inr (rest (omega arith))
     go false e d rest h = inr (rest (omega arith))
 
--- The law behind the vote: the greatest of the eight sums, ties to the smaller code, is found among the codes of the corners that weigh in, if one with a
--- code of the eight does.
+-- The law behind all this, of the definition: the greatest of the eight sums, ties to the smaller code, is found among the codes of the corners that weigh in, if
+-- one with a code of the eight does.
 pub found-among : (c : Corners) (code : ℕ) → code ≤ 7 → 0 < sumFor c code → SomeHas (sumsOf c) (vote c)
 found-among c code h some = some-has (sumsOf c) (vote c) (omega (arith, sums-are c (vote c), vote-is c .most code h))

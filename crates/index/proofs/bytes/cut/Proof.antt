@@ -1,6 +1,6 @@
 -- `cut` meets its contract: record r begins at byte 1024 (r - 1), and its 1024 bytes lie in the file. Assumes nothing.
 use mathlib.Core.Path.{_≡_, refl}
-use Prim.Native.Nat.{_+_, _-_, _*_}
+use Prim.Native.Nat.{_+_, _-_}
 use native.Mathlib.Omega.{arith}
 use borrow.Author.Needs.{needs}
 use Rattle.index.specs.Bytes.{recordStart, recordBytes}

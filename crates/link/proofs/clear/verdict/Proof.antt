@@ -1,5 +1,5 @@
 -- `verdict` meets its contract: what `is_clear` says of the link that was given. Assumes nothing.
-use mathlib.Core.Path.{_≡_, refl, sym}
+use mathlib.Core.Path.{_≡_, refl}
 use mathlib.Core.Bool.{Bool, true, false}
 use borrow.Author.Needs.{needs}
 use mir.Val.{boolByte}

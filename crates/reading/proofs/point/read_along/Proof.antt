@@ -6,7 +6,7 @@ use borrow.Author.Needs.{needs}
 use Rattle.reading.specs.Corner.{anyLacksHeight}
 use Rattle.reading.specs.Reading.{readCorners}
 use Rattle.reading.specs.Inside.{first, second, cornersAlong}
-use Rattle.reading.proofs.Laws.Edge.{along-fits, height-along}
+use Rattle.reading.proofs.Laws.Edge.{between-most, height-along}
 use Rattle.reading.proofs.Laws.Vote.{along-vote}
 use Rattle.reading.proofs.point.read_along.Statement.{statement}
 use Rattle.reading.proofs.point.read_along.Tie as tie
@@ -27,7 +27,7 @@ mul-given c =
     let start = c .before .before .before .before in
     let e = c .before .before .before .elevations .ensures in
     let h = c .before .before .before .elevations .result .0 in
-    omega (arith, c .along .ensures, along-fits (start .args .f) (first h) (second h) (omega (arith, start .pre)) (omega (arith, e .first)) (omega (arith, e .second)))
+    omega (arith, c .along .ensures, between-most (start .args .f) (first h) (second h) 8191 (omega (arith, start .pre)) (omega (arith, e .first)) (omega (arith, e .second)))
 
 returns-2 : tie.Need-returns-2
 unfolding readCorners

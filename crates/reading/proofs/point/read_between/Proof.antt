@@ -9,7 +9,7 @@ use Rattle.reading.specs.Corner.{anyLacksHeight}
 use Rattle.reading.specs.Reading.{readCorners}
 use Rattle.reading.specs.Inside.{first, second, between, cornersAround}
 use Rattle.reading.specs.declared.edge.Edge.{Edge}
-use Rattle.reading.proofs.Laws.Edge.{along-fits, between-fits, height-between}
+use Rattle.reading.proofs.Laws.Edge.{between-most, height-between}
 use Rattle.reading.proofs.point.read_between.Statement.{statement}
 use Rattle.reading.proofs.point.read_between.Tie as tie
 
@@ -46,9 +46,9 @@ between-requires c κs =
     let p = start .args .place in
     let is = along c in
     let fits : (n : ℕ) → between (p .fx .0) (elevationOf (first n)) (elevationOf (second n)) ≤ 4095500 =
-    λ n. along-fits (p .fx .0) (elevationOf (first n)) (elevationOf (second n)) (omega (arith, m .x)) (omega arith) (omega arith) in
+    λ n. between-most (p .fx .0) (elevationOf (first n)) (elevationOf (second n)) 8191 (omega (arith, m .x)) (omega arith) (omega arith) in
     rw (is .0, is .1)
-    (omega (arith, m .y), between-fits (p .fy .0) _ _ (omega (arith, m .y)) (fits (start .args .south .0)) (fits (start .args .north .0)))
+    (omega (arith, m .y), between-most (p .fy .0) _ _ 4095500 (omega (arith, m .y)) (fits (start .args .south .0)) (fits (start .args .north .0)))
 
 vote-requires : tie.Need-vote-requires
 vote-requires c κs = c .before .before .before .before .before .before .before .before .pre

@@ -11,7 +11,7 @@ use Rattle.ground.specs.Place.{word}
 use Rattle.ground.proofs.Laws.Test.{either, neither}
 use Rattle.reading.specs.Corner.{Corners}
 use Rattle.reading.specs.Reading.{readCorners, readTaken, readAnswer}
-use Rattle.reading.proofs.Laws.Edge.{line-in, edges-in, all-weigh, around-is, along-reads}
+use Rattle.reading.proofs.Laws.Edge.{word-in, line-in, edges-in, all-weigh, around-is, along-reads}
 use Rattle.reading.proofs.point.read_taken.Statement.{statement}
 use Rattle.reading.proofs.point.read_taken.Tie as tie
 
@@ -51,6 +51,9 @@ returns c =
     let under = rw (cut .cut .ensures .bytes) at (edge .under .ensures) in
     c .read-along .ensures ∙ ap readAnswer (sym (along-reads _ _ (cut .before .before .before .pre .measured) under))
 
+words-requires : tie.Need-words-requires
+words-requires c κs = word-in (c .before .before .before .before .before .before .pre)
+
 east-of-requires : tie.Need-east-of-requires
 east-of-requires c κs =
     let past = c .before in
@@ -89,5 +92,5 @@ returns-2 c =
 pub read-taken-spec : {M : Type 1} → statement M
 read-taken-spec =
     tie.close
-    (tie.spec (search needs) under-requires (search needs) read-along-requires returns (search needs) east-of-requires east-of-requires-2 read-between-requires
+    (tie.spec (search needs) under-requires (search needs) read-along-requires returns words-requires east-of-requires east-of-requires-2 read-between-requires
     returns-2)

@@ -1,10 +1,7 @@
 -- `vote` meets its contract: between two codes the nearer one decides, else the four corners do. Assumes nothing.
-use mathlib.Core.Path.{_≡_}
-use Prim.Native.Nat.{_+_}
 use native.Mathlib.Omega.{arith}
 use borrow.Author.Needs.{needs}
-use Rattle.ground.proofs.Laws.Place.{weighs}
-use Rattle.reading.proofs.Laws.Vote.{columns-vote, rows-vote, top-decides, four-vote}
+use Rattle.reading.proofs.Laws.Vote.{weigh, columns-vote, rows-vote, top-decides, four-vote}
 use Rattle.reading.proofs.vote.vote.Statement.{statement}
 use Rattle.reading.proofs.vote.vote.Tie as tie
 
@@ -29,13 +26,6 @@ returns-2 c =
     (rw (even2 .has-one-code2 .ensures) at (south .before .if3 .taken))
     (rw (south .first-code2 .ensures, north .first-code3 .ensures) at (c .nearer2 .ensures))
 
--- what the four corners weigh together
-all : (c : tie.Start) → (let k = c .args .place .weights in k .sw + k .se + (k .nw + k .ne) ≡ 250000)
-all c =
-    let m = c .pre in
-    let p = c .args .place in
-    rw (m .weights) (weighs (p .fx) (p .fy) (omega (arith, m .x)) (omega (arith, m .y)) .all)
-
 best-of-four-requires : tie.Need-best-of-four-requires
 best-of-four-requires c κs =
     let nw = c .before in
@@ -47,7 +37,7 @@ best-of-four-requires c κs =
         omega (arith, sw .first-code4 .ensures),
         (omega (arith, se .second-code2 .ensures), (omega (arith, nw .first-code5 .ensures), (omega (arith, c .second-code3 .ensures), tt))),
       );
-      light = omega (arith, all start);
+      light = omega (arith, weigh _ (start .pre));
     }
 
 returns-3 : tie.Need-returns-3
@@ -59,7 +49,7 @@ returns-3 c =
     let start = sw .before .before .before .before .before .before in
     four-vote _
     (rw (sw .first-code4 .ensures, se .second-code2 .ensures, nw .first-code5 .ensures, ne .second-code3 .ensures) at
-    (top-decides _ _ (omega (arith, all start)) (c .best-of-four .ensures)))
+    (top-decides _ _ (omega (arith, weigh _ (start .pre))) (c .best-of-four .ensures)))
 
 pub vote-spec : {M : Type 1} → statement M
 vote-spec =
