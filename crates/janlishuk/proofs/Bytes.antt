@@ -1,6 +1,7 @@
--- When a file is refused, in bytes and numbers; and what is read of a point, in bytes of the file and in document 01's letters: when it is refused with 5 and
--- with 6, and else its height and its code. With the sentences of `Document`, which say in which row and column of which record it is read, no definition between the bytes and the answer can be wrong in the
--- same way as the program. From these, demand 2 and the laws of the record taken. Assumes nothing.
+-- When a file is refused and when a point is, in bytes and numbers; and what is read of a point, in bytes of the file and in document 01's letters: when it is
+-- refused with 5 and with 6, and else its height and its code. With the sentences of `Document`, which say in which row and column of which record it is read,
+-- no definition between the bytes and the answer can be wrong in the same way as the program. From these, demand 2 and the laws of the record taken. Assumes
+-- nothing.
 use mathlib.Core.Path.{_≡_, refl, sym, _∙_, ap}
 use mathlib.Core.Logic.{_⊎_, ⊎-elim, _↔_}
 use mathlib.Core.Bool.{Bool, true, false, cond, false≢true}
