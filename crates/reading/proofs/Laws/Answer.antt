@@ -40,12 +40,14 @@ steps (given a) f h then = then a
 steps (refused number place) f h then = h
 
 module _ (file : List ℕ) where
+  -- the record of a point, 4 and 5
   taken-numbered : (t : Terrain) (p : Point) → Numbered (recordIn file t p)
   unfolding recordIn
   taken-numbered t p =
       steps (located (t .ground) p) (taken file) (test (not (holds (t .ground) p)) 4 _ (lit< tt) (lit≤ tt) tt)
       λ s. ⊎-elim (λ x. rw (x .1) tt) (λ e. rw e (lit< tt, (lit≤ tt, refl))) (taken-or-5 file s)
 
+  -- what is read from it, 6
   read-numbered : (t : Taken) → Numbered (readTaken file t)
   unfolding readTaken readCorners
   read-numbered t = test (anyLacksHeight (cornersOf file t)) 6 _ (lit< tt) (lit≤ tt) tt

@@ -148,18 +148,17 @@ top-more s l m within alone t =
     go code true e h = rw (← eqb-true (s .code) code e) (omega (arith, alone, larger-most (rankOf s) m .0))
     go code false e h = omega (arith, t .highest code (omega arith), larger-most (rankOf s) m .1)
 
+-- the highest rank of no sums is that of nothing, for any code
+top-none : (code : ℕ) → code ≤ 7 → Top [] (rankOf (record { code = code; weight = 0 }))
+top-none code within =
+    record {
+      reached = record { best = record { code = code; weight = 0 }; within = within; is = refl; most = le-refl 0 };
+      highest = λ k h. absurd (omega arith);
+    }
+
 -- the highest rank of one sum is its own
 top-one : (s : Sum) → s .code ≤ 7 → Top (s ∷ []) (rankOf s)
-top-one s within =
-    record {
-      reached = record { best = s; within = within; is = refl; most = omega (arith, own s) };
-      highest = λ code h. go code (eqb (s .code) code) refl h;
-    }
-  where
-    go : (code : ℕ) (b : Bool) → eqb (s .code) code ≡ b → 0 < cond b (s .weight) 0 + 0
-        → rankOf (record { code = code; weight = cond b (s .weight) 0 + 0 }) ≤ rankOf s
-    go code true e h = rw (← eqb-true (s .code) code e) (omega arith)
-    go code false e h = omega arith
+top-one s within = rw (le-ltb (rankOf s) (rankOf (record { code = s .code; weight = 0 })) (omega arith)) at (top-more s [] _ within refl (top-none (s .code) within))
 
 -- the highest rank of two sums, of one code and of two
 pub top-two-same : (a b : Sum) → a .code ≤ 7 → a .code ≡ b .code → Top (a ∷ b ∷ []) (rankOf (joined a b))
