@@ -9,6 +9,7 @@ use Rattle.path.specs.Path.{askMasts}
 use Rattle.path.specs.declared.Path.{Path}
 use Rattle.profile.specs.Profile.{Link, sampleOf, linked}
 use Rattle.masts.specs.Clear.{roundedUp, clearBy}
+use Rattle.link.specs.declared.clear.SightAnswer.{SightAnswer}
 use Rattle.link.specs.declared.clear.VerdictAnswer.{VerdictAnswer}
 
 -- A or B, an end with its mast: the height, 250 units of 1/250,000 m per millimetre, rounded down, and 1000 for each metre of the mast
@@ -36,6 +37,26 @@ clear l a b =
 -- the verdict on masts a and b: a refusal of `linked`, 8 among them for a mast above 100, or whether the path is clear
 unfoldable pub verdict : List ℕ → ℕ → ℕ → Point → Point → ℕ → ℕ → Outcome Bool
 verdict file base zone first second a b = linked file base zone (askMasts first second a b) andThen λ l. given (clear l a b)
+
+-- what is seen along a path: its N, and whether it is clear
+pub record Sight : Type 0 where
+  pub n : ℕ
+  pub clear : Bool
+
+-- N and the verdict on masts a and b, from one reading of the path: a refusal of `linked`, or both
+unfoldable pub sight : List ℕ → ℕ → ℕ → Point → Point → ℕ → ℕ → Outcome Sight
+sight file base zone first second a b =
+    linked file base zone (askMasts first second a b) andThen λ l. given (record { n = l .path .n; clear = clear l a b })
+
+-- N and the verdict as the shell gets them
+abbrev pub sightAnswer : Outcome Sight → SightAnswer
+sightAnswer o =
+    record {
+      refusal = refusalNumber o;
+      place = refusalPlace o;
+      n = filledBy 0 (o andThen λ s. given (s .n));
+      clear = filledBy 0 (o andThen λ s. given (cond (s .clear) 1 0));
+    }
 
 -- the answer of `janlishuk_verdict` as the caller gets it: clear is 1 or 0
 abbrev pub verdictAnswer : Outcome Bool → VerdictAnswer

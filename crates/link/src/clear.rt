@@ -7,7 +7,7 @@ ghost use Rattle.path.specs.Path.{tallest};
 ghost use Rattle.path.specs.Inside.{SoundPath};
 ghost use Rattle.profile.specs.Profile.{linkOf};
 ghost use Rattle.profile.specs.Inside.{SoundLink};
-ghost use Rattle.link.specs.Clear.{raised, T, G, need, clear, verdict, verdictAnswer};
+ghost use Rattle.link.specs.Clear.{raised, T, G, need, clear, sight, sightAnswer, verdict, verdictAnswer};
 use ground::point::Point;
 use masts::sight::IN_A_METRE;
 use masts::sight::rounded_up;
@@ -31,6 +31,14 @@ const RADII: u64 = 17000;
 pub struct VerdictAnswer {
     pub refusal: u32,
     pub place: u32,
+    pub clear: u32,
+}
+
+// N, and the verdict; or a refusal.
+pub struct SightAnswer {
+    pub refusal: u32,
+    pub place: u32,
+    pub n: u32,
     pub clear: u32,
 }
 
@@ -93,6 +101,44 @@ fn is_clear(path: Path, heights: &[u32; ROOM], codes: &[u8; ROOM], a: u32, b: u3
     true
 }
 
+// N of the path between two points of a file, and whether it is clear with masts of a and b metres; or
+// refusal 1 to 8.
+pub fn sight(
+    file: &[u8],
+    base: u32,
+    zone: u32,
+    first: Point,
+    second: Point,
+    a: u32,
+    b: u32,
+) -> SightAnswer
+    ensures { λ r. ⌜ r ≡ sightAnswer (sight (now (file .entry)) base zone first second a b) ⌝ }
+{
+    let mut heights = [0u32; ROOM];
+    let mut codes = [0u8; ROOM];
+    let asked = Asked {
+        first,
+        second,
+        a,
+        b,
+        i: 0,
+    };
+    match samples::read_samples(file, base, zone, asked, &mut heights, &mut codes) {
+        Sampled::Whole(path) => SightAnswer {
+            refusal: 0,
+            place: 0,
+            n: path.n,
+            clear: is_clear(path, &heights, &codes, a, b) as u32,
+        },
+        Sampled::Refused(refusal, place) => SightAnswer {
+            refusal,
+            place,
+            n: 0,
+            clear: 0,
+        },
+    }
+}
+
 // Whether the path between two points of a file is clear with masts of a and b metres, or refusal 1
 // to 8.
 pub fn verdict(
@@ -106,25 +152,10 @@ pub fn verdict(
 ) -> VerdictAnswer
     ensures { λ r. ⌜ r ≡ verdictAnswer (verdict (now (file .entry)) base zone first second a b) ⌝ }
 {
-    let mut heights = [0u32; ROOM];
-    let mut codes = [0u8; ROOM];
-    let asked = Asked {
-        first,
-        second,
-        a,
-        b,
-        i: 0,
-    };
-    match samples::read_samples(file, base, zone, asked, &mut heights, &mut codes) {
-        Sampled::Whole(path) => VerdictAnswer {
-            refusal: 0,
-            place: 0,
-            clear: is_clear(path, &heights, &codes, a, b) as u32,
-        },
-        Sampled::Refused(refusal, place) => VerdictAnswer {
-            refusal,
-            place,
-            clear: 0,
-        },
+    let seen = sight(file, base, zone, first, second, a, b);
+    VerdictAnswer {
+        refusal: seen.refusal,
+        place: seen.place,
+        clear: seen.clear,
     }
 }

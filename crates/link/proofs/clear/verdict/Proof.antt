@@ -1,42 +1,31 @@
--- `verdict` meets its contract: what `is_clear` says of the link that was given. Assumes nothing.
+-- `verdict` meets its contract: what `sight` says of the path, without N. Assumes nothing.
 use mathlib.Core.Path.{_≡_, refl}
-use mathlib.Core.Bool.{Bool, true, false}
+use Prim.Native.Nat.{ℕ}
 use borrow.Author.Needs.{needs}
-use mir.Val.{boolByte}
-use Rattle.ground.specs.Outcome.{given}
-use Rattle.profile.specs.Profile.{zeros}
-use Rattle.link.specs.Clear.{verdict, verdictAnswer}
-use Rattle.profile.proofs.Laws.Link.{sampled-is}
+use Rattle.ground.specs.Outcome.{Outcome, given, refused, _andThen_}
+use Rattle.path.specs.Path.{askMasts}
+use Rattle.profile.specs.Profile.{Link, linked}
+use Rattle.link.specs.Clear.{clear, sight, sightAnswer, verdict, verdictAnswer}
+use Rattle.link.specs.declared.clear.SightAnswer.{SightAnswer}
+use Rattle.link.specs.declared.clear.VerdictAnswer.{VerdictAnswer}
 use Rattle.link.proofs.clear.verdict.Statement.{statement}
 use Rattle.link.proofs.clear.verdict.Tie as tie
 
-read-samples-requires : tie.Need-read-samples-requires
-unfolding zeros
-read-samples-requires c κs = search needs
+-- the answer without N
+abbrev without : SightAnswer → VerdictAnswer
+without s = record { refusal = s .refusal; place = s .place; clear = s .clear }
 
-is-clear-requires : tie.Need-is-clear-requires
-is-clear-requires c κs =
-    let at = c .before .before .before in
-    let l = sampled-is (at .before .before .read-samples .ensures) (at .path .given .1) in
-    (l .sound, (l .asked .a, l .asked .b))
-
--- the answer of a truth value
-answered : (t : Bool) → record { refusal = 0; place = 0; clear = boolByte t } ≡ verdictAnswer (given t)
-answered true = refl
-answered false = refl
+-- the verdict is what is seen along the path, without N
+same : (o : Outcome Link) (a b : ℕ)
+    → without (sightAnswer (o andThen λ l. given (record { n = l .path .n; clear = clear l a b }))) ≡ verdictAnswer (o andThen λ l. given (clear l a b))
+same (given l) a b = refl
+same (refused number place) a b = refl
 
 returns : tie.Need-returns
-unfolding verdict
+unfolding sight verdict
 returns c =
-    let at = c .before .before .before .before in
-    let e = rw (at .path .given .1) at (at .before .before .read-samples .ensures) in
-    simp (← e, ← c .is-clear .ensures) (answered (c .is-clear .result))
-
-returns-2 : tie.Need-returns-2
-unfolding verdict
-returns-2 c = simp (← (rw (c .before .refusal .given .1) at (c .before .before .before .read-samples .ensures)))
+    let a = c .before .before .args in
+    rw (c .sight .ensures) (same (linked (a .file .now) (a .base) (a .zone) (askMasts (a .first) (a .second) (a .a) (a .b))) (a .a) (a .b))
 
 pub verdict-spec : {M : Type 1} → statement M
-verdict-spec =
-    tie.close
-    (tie.spec read-samples-requires (search needs) is-clear-requires (search needs) (search needs) returns returns-2)
+verdict-spec = tie.close (tie.spec (search needs) returns)
