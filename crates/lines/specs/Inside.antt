@@ -71,7 +71,7 @@ saidFrom = found aCommand noCommand
 abbrev pub textFrom : ℕ → Part ℕ → ℕ
 textFrom = found (λ v at. at) λ at. at
 
--- What `read_line` says of the line that begins at a place: its reading, and a place in it. The place is past its command, or where it is bad.
+-- What `read_line` says of the line that begins at a place: its reading, and some place in it, from which on its end is looked for.
 pub record ReadsLine (bytes : List ℕ) (from : ℕ) (r : Read) : Type 0 where
   pub line : r .line ≡ keyed (reading (lineAt bytes from))
   pub after : from ≤ r .at

@@ -27,7 +27,8 @@ const FILE: usize = MOST_BYTES + 1;
 const SECOND: usize = FILE;
 
 // Where a session stands: what the shell remembers, the place and the length of the file in use, the end of
-// the input and the place in it, how much of the room for answers is filled, and whether the session goes on.
+// the input and the place in it, how much of the room for answers is filled, whether the input has ended, and
+// whether the session goes on.
 struct Desk {
     shell: Shell,
     place: usize,
@@ -35,6 +36,7 @@ struct Desk {
     end: usize,
     at: usize,
     filled: usize,
+    ended: bool,
     open: bool,
 }
 
@@ -58,6 +60,7 @@ fn opened() -> Desk
         end: 0,
         at: 0,
         filled: 0,
+        ended: false,
         open: true,
     }
 }
@@ -75,6 +78,7 @@ fn after(desk: Desk, step: Step) -> Desk
         end: desk.end,
         at: step.at,
         filled: step.filled,
+        ended: desk.ended,
         open: desk.open,
     }
 }
@@ -183,31 +187,51 @@ fn read_piece(input: &mut [u8], kept: usize) -> Piece
     }
 }
 
-// The end of the next piece of input, read after what was kept of a line, which is ended where the input has
-// ended; 0 where nothing is left, or where the read failed.
-fn next_end(input: &mut [u8; PIECE], kept: usize) -> usize
+// The session at its end.
+fn closed(desk: Desk) -> Desk
+    requires { ⌜ AtDesk desk ⌝ }
+    ensures { λ r. ⌜ AtDesk r ⌝ }
+{
+    let mut then = desk;
+    then.open = false;
+    then
+}
+
+// The next piece of input, read after what was kept of a line, which is ended where the input has ended; its
+// end is 0 where nothing is left, or where the read failed.
+fn next_piece(input: &mut [u8; PIECE], kept: usize) -> Piece
     requires { ⌜ (length (now input) ≡ 65536) × (kept ≤ 48) ⌝ }
-    ensures { λ r. ⌜ (r ≤ 65536) × (length (now (input .exit)) ≡ 65536) ⌝ }
+    ensures { λ r. ⌜ (r .end ≤ 65536) × (length (now (input .exit)) ≡ 65536) ⌝ }
 {
     let piece = read_piece(input, kept);
     if piece.ended {
-        return feed::end_kept(input, kept);
+        return Piece {
+            end: feed::end_kept(input, kept),
+            ended: true,
+        };
     }
-    piece.end
+    piece
 }
 
-// The session after the answers that wait were written and the next piece of input was read: it goes on where
-// all could be written and there is such a piece.
+// The session after the answers that wait were written and the next piece of input was read. It ends where
+// not all could be written, where the input has ended, and where there is no such piece.
 fn read_on(desk: Desk, input: &mut [u8; PIECE], out: &[u8; answer::ROOM]) -> Desk
     requires { ⌜ AtDesk desk × (length (now input) ≡ 65536) ⌝ }
     ensures { λ r. ⌜ AtDesk r × (length (now (input .exit)) ≡ 65536) ⌝ }
 {
     let mut then = flush(desk, out);
+    if desk.ended {
+        return closed(then);
+    }
+    if !then.open {
+        return then;
+    }
     let kept = feed::keep(input, desk.at, desk.end);
-    let end = next_end(input, kept);
-    then.end = end;
+    let piece = next_piece(input, kept);
     then.at = 0;
-    then.open = then.open & (0 < end);
+    then.end = piece.end;
+    then.ended = piece.ended;
+    then.open = 0 < piece.end;
     then
 }
 

@@ -2,7 +2,7 @@
 --     Written      a word written after another
 --     Answer       how long an answer is
 --     Refused      what an answer of `sight` and of `plan` shows
---     Names        two names are the same exactly if they have the same key
+--     Names        two names are found the same exactly if they are
 --     Sites        what a search among the keys comes to, and what is held after a site is added
 --     Use          what a `use` answers, and what is held after it
 --     Line         what a line says that is answered from the state alone
@@ -10,6 +10,7 @@
 --     Pieces       a session is answered line by line, and its input may come in pieces
 --     Done         the lines of an input that were answered so far
 --     Fed          what `answer_lines` promises is the session, piece by piece
+--     Sentences    document 02, request e), sentence by sentence
 --     Small        the shell says no number of more than three digits, and how each is spelled
 pub mod Written
 pub mod Answer
@@ -22,4 +23,5 @@ pub mod Lines
 pub mod Pieces
 pub mod Done
 pub mod Fed
+pub mod Sentences
 pub mod Small

@@ -135,11 +135,11 @@ Replies line shell file before after r =
     (r .answer ≡ answered folder s q .answer) × Holds (r .shell) after file (answered folder s q .state)
 
 -- Why the lines of an input are answered no further, and what is then left of those that are ended: a `use`, for whose answer there is room, and those from
--- the place on; none; or, where there is no room for an answer, those from the place on.
+-- the place on; none, and none is ended from the place on; or, where there is no room for an answer, those from the place on.
 abbrev pub Stops : next·type.Next → List ℕ → Step → List (List ℕ) → Type 0
 Stops (next.Use base zone) input r rest =
     (r .filled ≤ 65519) × ((line : List ℕ) × ((reading line ≡ legal («use» base zone)) × (rest ≡ line ∷ endedFrom [] (drop (r .at) input))))
-Stops next.More input r rest = rest ≡ []
+Stops next.More input r rest = (rest ≡ []) × (endedFrom [] (drop (r .at) input) ≡ [])
 Stops next.Full input r rest = (rest ≡ endedFrom [] (drop (r .at) input)) × (65519 < r .filled)
 
 -- What `answer_lines` does with the lines that are ended in the input from a place on: the first of them are answered, in whatever state and whatever the

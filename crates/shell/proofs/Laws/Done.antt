@@ -88,7 +88,7 @@ module _ (input : List ℕ) (from : ℕ) (shell : Shell) (file : List ℕ) (l : 
           lines = d .lines;
           rest = [];
           ended = d .ended ∙ rw (line-left input at h);
-          stops = refl;
+          stops = (refl, line-left input at h);
           left = d .left;
           answered = d .answered;
           room = d .room;

@@ -1,18 +1,19 @@
 -- What `answer_lines` promises is the session, piece by piece: the answers to the lines that it answered, and then to those that it left, are the
 -- answers to all that are ended; and so is what the shell remembers after them. From the law that lines are answered one after the
 -- other. Assumes nothing.
-use mathlib.Core.Path.{_≡_, refl, _∙_}
+use mathlib.Core.Path.{_≡_, refl, sym, _∙_, ap}
 use mathlib.Core.List.{List, [], _∷_, _++_, append-nil}
-use Prim.Native.Nat.{ℕ}
-use lib.ListN.{drop}
+use Prim.Native.Nat.{ℕ, _-_}
+use lib.ListN.{take, drop}
 use Rattle.lines.specs.Line.{reading}
 use Rattle.shell.specs.Answer.{said}
 use Rattle.shell.specs.Session.{State, Folder, onUse, answered, answers}
-use Rattle.shell.specs.Pieces.{endedFrom, after}
-use Rattle.shell.specs.Inside.{Lists, Holds, Written, Feeds}
+use Rattle.shell.specs.Pieces.{mostKept, endedFrom, leftFrom, after}
+use Rattle.shell.specs.Inside.{Lists, Holds, Written, Feeds, Keeps}
 use Rattle.shell.specs.declared.command.Shell.{Shell}
 use Rattle.shell.specs.declared.feed.Step.{Step}
 use Rattle.shell.specs.declared.feed.Next.the-variants as next
+use Rattle.shell.proofs.Laws.Lines.{left-from, drop-first}
 use Rattle.shell.proofs.Laws.Pieces.{answers-split}
 
 -- what the shell remembers after some lines and then others
@@ -37,7 +38,7 @@ module _ {input : List ℕ} {from : ℕ} {shell : Shell} {file : List ℕ} {l l'
 
   -- Where it asks for more, all the lines that are ended were answered:
   all-fed : r .next ≡ next.More → ended ≡ f .lines
-  all-fed e = f .ended ∙ rw (rw e at (f .stops)) (append-nil (f .lines))
+  all-fed e = f .ended ∙ rw ((rw e at (f .stops)) .0) (append-nil (f .lines))
 
   pub more-fed : r .next ≡ next.More → (answers folder s ended ≡ answers folder s (f .lines)) × (after folder s ended ≡ now)
   more-fed e = (rw (all-fed e), rw (all-fed e))
@@ -46,6 +47,14 @@ module _ {input : List ℕ} {from : ℕ} {shell : Shell} {file : List ℕ} {l l'
   pub more-written : r .next ≡ next.More → Holds shell l file s
       → Written (answers folder s ended) out filled exit (r .filled) × Holds (r .shell) l' file (after folder s ended)
   more-written e h = rw (all-fed e) (f .answered folder s h)
+
+  -- and what `keep` then keeps of the bytes from its place on is what is left of the last line, at most 48 bytes of it.
+  pub more-kept : {whole kept : List ℕ} {end n : ℕ} → input ≡ take end whole → r .next ≡ next.More → Keeps whole (r .at) end kept n
+      → take n kept ≡ take mostKept (leftFrom [] (drop from input))
+  more-kept {whole} {kept} {end} i e k =
+      let none = (rw e at (f .stops)) .1 in
+      let rest : drop (r .at) input ≡ take (end - r .at) (drop (r .at) whole) = rw i (drop-first (r .at) end whole) in
+      k .bytes ∙ sym (ap (λ l. take mostKept l) (f .left ∙ left-from input (r .at) none ∙ rest))
 
   -- Where it stops at a `use`, the answers go on with that of the `use` and those to the lines from its place on.
   pub use-fed : {base zone : ℕ} → r .next ≡ next.Use base zone →

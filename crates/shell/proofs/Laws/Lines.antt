@@ -4,11 +4,11 @@ use mathlib.Core.Path.{_≡_, refl, sym, _∙_, ap}
 use mathlib.Core.Logic.{_⊎_, inl, inr, ⊎-elim}
 use mathlib.Core.Bool.{Bool, true, false, cond}
 use mathlib.Core.List.{List, [], _∷_, _++_, append-assoc, append-nil}
-use Prim.Native.Nat.{ℕ, zero, suc, _+_, _≤_, _<_}
+use Prim.Native.Nat.{ℕ, zero, suc, _+_, _-_, _≤_, _<_}
 use native.Mathlib.Omega.{arith}
 use lib.Dec.{eqb}
-use lib.ListN.{length, drop, length-drop}
-use lib.Seq.{drop-drop}
+use lib.ListN.{length, take, drop, length-drop}
+use lib.Seq.{drop-drop, take-nil}
 use Rattle.lines.specs.Text.{firstLine, lineAt}
 use Rattle.lines.specs.Line.{reading}
 use Rattle.shell.specs.Session.{State, Folder, answered, answers}
@@ -67,3 +67,35 @@ pub after-one : (folder : Folder) (s : State) (lines : List (List ℕ)) (line : 
 unfolding after
 after-one folder s [] line = refl
 after-one folder s (l ∷ lines) line = after-one folder (answered folder s (reading l) .state) lines line
+
+-- where no line is ended, all bytes are left
+left-all : (line l : List ℕ) → endedFrom line l ≡ [] → leftFrom line l ≡ line ++ l
+unfolding endedFrom leftFrom
+left-all line [] e = sym (append-nil line)
+left-all line (c ∷ l) e = go (eqb c 10) e (left-all (line ++ (c ∷ [])) l)
+  where
+    go : (t : Bool) → cond t (line ∷ endedFrom [] l) (endedFrom (line ++ (c ∷ [])) l) ≡ []
+        → (endedFrom (line ++ (c ∷ [])) l ≡ [] → leftFrom (line ++ (c ∷ [])) l ≡ (line ++ (c ∷ [])) ++ l)
+        → cond t (leftFrom [] l) (leftFrom (line ++ (c ∷ [])) l) ≡ line ++ (c ∷ l)
+    go true e i = let z : _≡_ {A = ℕ} 0 1 = cc in absurd (omega arith)
+    go false e i = i e ∙ append-assoc line (c ∷ []) l
+
+-- the bytes from a place on, where no line is ended from there on, are what is left
+pub left-from : (input : List ℕ) (at : ℕ) → endedFrom [] (drop at input) ≡ [] → leftFrom [] (drop at input) ≡ drop at input
+left-from input at e = left-all [] (drop at input) e
+
+-- the bytes from a place to before the end
+pub drop-first : (at end : ℕ) (l : List ℕ) → drop at (take end l) ≡ take (end - at) (drop at l)
+drop-first zero end l = ap (λ n. take n l) less
+  where
+    less : end ≡ end - 0
+    less = omega arith
+drop-first (suc at) zero l = sym (ap (λ n. take n (drop (suc at) l)) less)
+  where
+    less : 0 - suc at ≡ 0
+    less = omega arith
+drop-first (suc at) (suc end) [] = sym (take-nil (suc end - suc at))
+drop-first (suc at) (suc end) (b ∷ l) = drop-first at end l ∙ ap (λ n. take n (drop at l)) less
+  where
+    less : end - at ≡ suc end - suc at
+    less = omega arith

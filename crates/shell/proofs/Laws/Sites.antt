@@ -1,44 +1,30 @@
 -- What a search among the keys comes to for the names, in a state that is held; and what is held after a site is added. From the law that no
 -- two names have one key. Assumes nothing.
-use mathlib.Core.Path.{_≡_, refl, sym, _∙_}
-use mathlib.Core.Bool.{Bool, true, false, and-eq-true-iff, false≢true}
+use mathlib.Core.Path.{_≡_, refl, sym, _∙_, ap}
+use mathlib.Core.Bool.{Bool, true, false}
 use mathlib.Core.List.{List, [], _∷_, _++_}
 use Prim.Native.Nat.{ℕ, zero, suc, _+_, _≤_, _<_}
 use native.Mathlib.Omega.{arith}
 use native.Mathlib.Decide.{decLt}
-use lib.Dec.{eqb}
 use lib.ListN.{length, getD, set, length-append, length-set, List·getD-append}
 use lib.Seq.{getD-append-seam, getD-set-same, getD-set-other}
-use borrow.Author.Tests.{eq-eqb, eqb-true}
 use Rattle.lines.specs.Key.{key}
 use Rattle.lines.proofs.Laws.Key.{key-once}
 use Rattle.shell.specs.Session.{Site, State, found, missing, sameName, siteOf}
 use Rattle.shell.specs.Inside.{Lists, lists, Finds, Holds, Named, siteAt}
 use Rattle.shell.specs.declared.command.Shell.{Shell}
-
--- names are the same where their bytes are
-same-self : (w : List ℕ) → sameName w w ≡ true
-unfolding sameName
-same-self [] = refl
-same-self (b ∷ w) = simp (eq-eqb b b refl, same-self w)
-
-same-is : (v w : List ℕ) → sameName v w ≡ true → v ≡ w
-unfolding sameName
-same-is [] [] e = refl
-same-is [] (c ∷ w) e = absurd (false≢true e)
-same-is (b ∷ v) [] e = absurd (false≢true e)
-same-is (b ∷ v) (c ∷ w) e = let t = and-eq-true-iff (eqb b c) _ .0 e in cc (eqb-true b c (t .0), same-is v w (t .1))
+use Rattle.shell.proofs.Laws.Names.{same-name}
 
 -- names are the same exactly if their keys are
 same : (v w : List ℕ) → Named v → Named w → key v ≡ key w → sameName v w ≡ true
-same v w p q e = rw (key-once v w p q e) (same-self w)
+same v w p q e = same-name v w .1 (key-once v w p q e)
 
 other : (v w : List ℕ) → (key v ≡ key w → ⊥) → sameName v w ≡ false
 other v w n = go (sameName v w) refl
   where
     go : (t : Bool) → sameName v w ≡ t → t ≡ false
     go false e = refl
-    go true e = absurd (n (rw (same-is v w e)))
+    go true e = absurd (n (ap (λ u. key u) (same-name v w .0 e)))
 
 -- The site of a name is the first that has it;
 module _ (name : List ℕ) where
