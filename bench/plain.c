@@ -28,9 +28,18 @@
 static const uint16_t southern[] = {0,     899,   1767,  2666,  3534,  4433,  5301,  6200,  7068,  7967,  8866,
                                     9734,  10633, 11532, 12400, 13299, 14198, 15097, 15965, 16864, 17763, 18662};
 
+/* A file that was opened and its ground, whose southern boundary and extent to the north are in metres. */
+struct ground {
+    const uint8_t *file;
+    uint32_t zone;
+    uint32_t south;
+    uint32_t extent;
+    uint32_t highest;
+};
+
 /* A path whose ends lie on the ground of a file. The place is that of a refusal. */
 struct path {
-    struct plain_ground ground;
+    struct ground ground;
     struct janlishuk_point first;
     struct janlishuk_point second;
     uint64_t q;
@@ -80,7 +89,7 @@ static bool index_passes(const uint8_t *file, size_t highest, size_t end)
 }
 
 /* Opens a file with its base and zone, of whose index only M is looked at: refusals 1, 2, and 3 for M outside its range, else 0 and its ground. */
-static inline uint32_t open_file(const uint8_t *file, size_t length, uint32_t base, uint32_t zone, struct plain_ground *ground)
+static inline uint32_t open_file(const uint8_t *file, size_t length, uint32_t base, uint32_t zone, struct ground *ground)
 {
     if (length % RECORD_BYTES != 0 || length < LEAST_RECORDS * RECORD_BYTES || length > MOST_RECORDS * RECORD_BYTES)
         return 1;
@@ -91,12 +100,12 @@ static inline uint32_t open_file(const uint8_t *file, size_t length, uint32_t ba
         return 3;
     uint32_t south = southern[base / 4];
     uint32_t units = southern[base / 4 + 1] - south;
-    *ground = (struct plain_ground){.file = file, .zone = zone, .south = UNIT * south, .extent = UNIT * units, .highest = highest};
+    *ground = (struct ground){.file = file, .zone = zone, .south = UNIT * south, .extent = UNIT * units, .highest = highest};
     return 0;
 }
 
 /* Opens a file and checks its whole index: refusals 1, 2 and 3 in that order, else 0 and its ground. */
-static uint32_t check_file(const uint8_t *file, size_t length, uint32_t base, uint32_t zone, struct plain_ground *ground)
+static uint32_t check_file(const uint8_t *file, size_t length, uint32_t base, uint32_t zone, struct ground *ground)
 {
     uint32_t refusal = open_file(file, length, base, zone, ground);
     if (refusal != 0)
@@ -105,7 +114,7 @@ static uint32_t check_file(const uint8_t *file, size_t length, uint32_t base, ui
 }
 
 /* Whether a point is of the file's zone and on its ground. */
-static inline bool on_ground(const struct plain_ground *ground, const struct janlishuk_point *point)
+static inline bool on_ground(const struct ground *ground, const struct janlishuk_point *point)
 {
     return point->zone == ground->zone && point->easting - WEST < WIDTH && point->northing - ground->south < ground->extent;
 }
@@ -194,14 +203,14 @@ static inline uint32_t vote(struct sum sw, struct sum se, struct sum nw, struct 
 }
 
 /* Whether an entry names a record, one from 7 to M. */
-static inline bool is_record(const struct plain_ground *ground, uint32_t entry)
+static inline bool is_record(const struct ground *ground, uint32_t entry)
 {
     return entry - LEAST_RECORDS - 1 < ground->highest - LEAST_RECORDS;
 }
 
 /* Reads a point's exact height, and its surface code unless that is null: refusals 4, 5 and 6 in that order, else 0; where the file was only
  * opened, not checked, refusals 4, 3 for an entry that names no record, 5 and 6. */
-static inline __attribute__((always_inline)) uint32_t read_in(const struct plain_ground *ground, const struct janlishuk_point *point, bool checked,
+static inline __attribute__((always_inline)) uint32_t read_in(const struct ground *ground, const struct janlishuk_point *point, bool checked,
                                                               uint32_t *height, uint8_t *code)
 {
     if (!on_ground(ground, point))
@@ -250,7 +259,7 @@ static inline __attribute__((always_inline)) uint32_t read_in(const struct plain
 }
 
 /* Reads a point of a checked file: refusals 4, 5 and 6 in that order, else 0. */
-static uint32_t read_point(const struct plain_ground *ground, const struct janlishuk_point *point, uint32_t *height, uint8_t *code)
+static uint32_t read_point(const struct ground *ground, const struct janlishuk_point *point, uint32_t *height, uint8_t *code)
 {
     return read_in(ground, point, true, height, code);
 }
@@ -270,23 +279,6 @@ static uint32_t least_steps(uint64_t q)
     return n;
 }
 
-/* Finds a path on its ground, which is that of a checked file: refusals 4 for each end, then 7, else 0. */
-static inline __attribute__((always_inline)) uint32_t find_path(const struct janlishuk_point *first, const struct janlishuk_point *second,
-                                                                struct path *path)
-{
-    if (!on_ground(&path->ground, first) || !on_ground(&path->ground, second))
-        return 4;
-    int64_t east = (int64_t)second->easting - first->easting, north = (int64_t)second->northing - first->northing;
-    uint64_t q = (uint64_t)(east * east + north * north);
-    if (q == 0 || q > MOST_Q)
-        return 7;
-    path->first = *first;
-    path->second = *second;
-    path->q = q;
-    path->n = least_steps(q);
-    return 0;
-}
-
 /* Opens a file and a path on it: refusals 1, 2, 3, then 4 for each end, then 7, else 0. */
 static uint32_t open_path(const uint8_t *file, size_t length, uint32_t base, uint32_t zone, struct janlishuk_point first,
                           struct janlishuk_point second, struct path *path)
@@ -295,7 +287,17 @@ static uint32_t open_path(const uint8_t *file, size_t length, uint32_t base, uin
     uint32_t refusal = check_file(file, length, base, zone, &path->ground);
     if (refusal != 0)
         return refusal;
-    return find_path(&first, &second, path);
+    if (!on_ground(&path->ground, &first) || !on_ground(&path->ground, &second))
+        return 4;
+    int64_t east = (int64_t)second.easting - first.easting, north = (int64_t)second.northing - first.northing;
+    uint64_t q = (uint64_t)(east * east + north * north);
+    if (q == 0 || q > MOST_Q)
+        return 7;
+    path->first = first;
+    path->second = second;
+    path->q = q;
+    path->n = least_steps(q);
+    return 0;
 }
 
 /* Reads the samples from 0 upward, their codes where there is room for them: refusals 4, 5 and 6 at the path's place, else 0. */
@@ -336,16 +338,6 @@ static inline uint32_t need(const struct path *path, const uint32_t *heights, ui
     return path->n * ((heights[i] + 249) / 250 + (uint32_t)curve);
 }
 
-/* Sets what each sample of a path whose heights were read needs. */
-static inline __attribute__((always_inline)) void set_needs(const struct path *path, const uint32_t *heights, struct needs *needs)
-{
-    needs->n = path->n;
-    needs->first = heights[0] / 250;
-    needs->second = heights[path->n] / 250;
-    for (uint32_t i = 1; i < path->n; i++)
-        needs->at[i] = need(path, heights, i);
-}
-
 /* Reads the heights of a path and finds what each of its samples needs: refusals 1 to 8 in their order, else 0. */
 static uint32_t find_needs(const uint8_t *file, size_t length, uint32_t base, uint32_t zone, struct janlishuk_point first,
                            struct janlishuk_point second, uint32_t la, uint32_t lb, struct needs *needs)
@@ -356,7 +348,11 @@ static uint32_t find_needs(const uint8_t *file, size_t length, uint32_t base, ui
     needs->place = path.place;
     if (refusal != 0)
         return refusal;
-    set_needs(&path, heights, needs);
+    needs->n = path.n;
+    needs->first = heights[0] / 250;
+    needs->second = heights[path.n] / 250;
+    for (uint32_t i = 1; i < path.n; i++)
+        needs->at[i] = need(&path, heights, i);
     return 0;
 }
 
@@ -374,7 +370,7 @@ static bool is_clear(const struct needs *needs, uint32_t a, uint32_t b)
 /* The check of a file. */
 struct janlishuk_check_answer plain_check(const uint8_t *file, size_t length, uint32_t base, uint32_t zone)
 {
-    struct plain_ground ground;
+    struct ground ground;
     uint32_t refusal = check_file(file, length, base, zone, &ground);
     return (struct janlishuk_check_answer){.refusal = refusal, .highest = refusal == 0 ? ground.highest : 0};
 }
@@ -383,7 +379,7 @@ struct janlishuk_check_answer plain_check(const uint8_t *file, size_t length, ui
 static inline __attribute__((always_inline)) struct janlishuk_read_answer answer_point(const uint8_t *file, size_t length, uint32_t base,
                                                                                        uint32_t zone, struct janlishuk_point point, bool checked)
 {
-    struct plain_ground ground;
+    struct ground ground;
     uint32_t height = 0;
     uint8_t code = 0;
     uint32_t refusal = checked ? check_file(file, length, base, zone, &ground) : open_file(file, length, base, zone, &ground);
@@ -412,7 +408,7 @@ struct janlishuk_upload_answer plain_upload(const uint8_t *file, size_t length, 
                                             size_t heights_room, uint8_t *codes, size_t codes_room, uint8_t *refusals,
                                             size_t refusals_room)
 {
-    struct plain_ground ground;
+    struct ground ground;
     size_t count = eastings_count;
     uint32_t refusal = check_file(file, length, base, zone, &ground);
     if (refusal != 0)
@@ -473,27 +469,19 @@ struct janlishuk_verdict_answer plain_verdict(const uint8_t *file, size_t length
     return (struct janlishuk_verdict_answer){.clear = 1};
 }
 
-/* The two masts of a path whose needs were found; false where there is no pair. Raising the first mast never raises the least second mast, so the two
- * go over the pairs as down a staircase. */
-static inline __attribute__((always_inline)) bool search(const struct needs *needs, uint32_t la, uint32_t lb, struct janlishuk_plan_answer *least)
+/* N and the clear verdict without masts. */
+struct plain_sight_answer plain_sight(const uint8_t *file, size_t length, uint32_t base, uint32_t zone, struct janlishuk_point first,
+                                      struct janlishuk_point second)
 {
-    uint32_t a = 0, b = lb;
-    while (!is_clear(needs, a, b)) {
-        if (a == la)
-            return false;
-        a++;
-    }
-    *least = (struct janlishuk_plan_answer){.first = a, .second = b};
-    for (; a <= la && a < least->first + least->second; a++) {
-        while (b > 0 && is_clear(needs, a, b - 1))
-            b--;
-        if (a + b < least->first + least->second)
-            *least = (struct janlishuk_plan_answer){.first = a, .second = b};
-    }
-    return true;
+    struct path path;
+    uint32_t heights[JANLISHUK_ROOM];
+    uint32_t refusal = read_link(file, length, base, zone, first, second, 0, 0, &path, heights);
+    if (refusal != 0)
+        return (struct plain_sight_answer){.refusal = refusal};
+    return (struct plain_sight_answer){.n = path.n, .clear = sees(&path, heights, 0, 0)};
 }
 
-/* The mast plan. */
+/* The mast plan. Raising the first mast never raises the least second mast, so the two go over the pairs as down a staircase. */
 struct janlishuk_plan_answer plain_plan(const uint8_t *file, size_t length, uint32_t base, uint32_t zone, struct janlishuk_point first,
                                         struct janlishuk_point second, uint32_t la, uint32_t lb)
 {
@@ -501,9 +489,19 @@ struct janlishuk_plan_answer plain_plan(const uint8_t *file, size_t length, uint
     uint32_t refusal = find_needs(file, length, base, zone, first, second, la, lb, &needs);
     if (refusal != 0)
         return (struct janlishuk_plan_answer){.refusal = refusal, .place = needs.place};
-    struct janlishuk_plan_answer least;
-    if (!search(&needs, la, lb, &least))
-        return (struct janlishuk_plan_answer){.refusal = 9};
+    uint32_t a = 0, b = lb;
+    while (!is_clear(&needs, a, b)) {
+        if (a == la)
+            return (struct janlishuk_plan_answer){.refusal = 9};
+        a++;
+    }
+    struct janlishuk_plan_answer least = {.first = a, .second = b};
+    for (; a <= la && a < least.first + least.second; a++) {
+        while (b > 0 && is_clear(&needs, a, b - 1))
+            b--;
+        if (a + b < least.first + least.second)
+            least = (struct janlishuk_plan_answer){.first = a, .second = b};
+    }
     return least;
 }
 
@@ -522,52 +520,4 @@ struct janlishuk_plan_answer plain_plan_every_pair(const uint8_t *file, size_t l
         }
     }
     return (struct janlishuk_plan_answer){.refusal = 9};
-}
-
-/* The check of a file whose ground is kept for the two calls that follow: refusals 1, 2 and 3, else 0 and the ground. */
-uint32_t plain_open(const uint8_t *file, size_t length, uint32_t base, uint32_t zone, struct plain_ground *ground)
-{
-    return check_file(file, length, base, zone, ground);
-}
-
-/* Reads the heights of a path on the ground of a checked file, for masts or mast limits of a and b: refusals 4 to 8 in their order, else 0. */
-static uint32_t read_link_in(const struct plain_ground *ground, const struct janlishuk_point *first, const struct janlishuk_point *second, uint32_t a,
-                             uint32_t b, struct path *path, uint32_t *heights)
-{
-    path->place = 0;
-    path->ground = *ground;
-    uint32_t refusal = find_path(first, second, path);
-    if (refusal != 0)
-        return refusal;
-    if (a > MOST_MAST || b > MOST_MAST)
-        return 8;
-    return read_samples(path, heights, NULL);
-}
-
-/* N and the clear verdict of a path without masts, in a checked file. */
-struct plain_path_answer plain_path_in(const struct plain_ground *ground, struct janlishuk_point first, struct janlishuk_point second)
-{
-    struct path path;
-    uint32_t heights[JANLISHUK_ROOM];
-    uint32_t refusal = read_link_in(ground, &first, &second, 0, 0, &path, heights);
-    if (refusal != 0)
-        return (struct plain_path_answer){.refusal = refusal};
-    return (struct plain_path_answer){.n = path.n, .clear = sees(&path, heights, 0, 0)};
-}
-
-/* The mast plan in a checked file. */
-struct janlishuk_plan_answer plain_plan_in(const struct plain_ground *ground, struct janlishuk_point first, struct janlishuk_point second, uint32_t la,
-                                           uint32_t lb)
-{
-    struct path path;
-    struct needs needs;
-    uint32_t heights[JANLISHUK_ROOM];
-    uint32_t refusal = read_link_in(ground, &first, &second, la, lb, &path, heights);
-    if (refusal != 0)
-        return (struct janlishuk_plan_answer){.refusal = refusal, .place = path.place};
-    set_needs(&path, heights, &needs);
-    struct janlishuk_plan_answer least;
-    if (!search(&needs, la, lb, &least))
-        return (struct janlishuk_plan_answer){.refusal = 9};
-    return least;
 }

@@ -1,5 +1,5 @@
-/* The calls of janlishuk.h in plain C: the same arguments and the same answers, to count the library's instructions beside. Three calls more check a
- * file once and then ask of it without a further check, as a shell does. */
+/* The calls of janlishuk.h in plain C: the same arguments and the same answers, to count the library's instructions beside; and for the second shell N
+ * with the verdict. */
 #ifndef PLAIN_H
 #define PLAIN_H
 
@@ -25,32 +25,18 @@ struct janlishuk_verdict_answer plain_verdict(const uint8_t *file, size_t length
 struct janlishuk_plan_answer plain_plan(const uint8_t *file, size_t length, uint32_t base, uint32_t zone, struct janlishuk_point first,
                                         struct janlishuk_point second, uint32_t la, uint32_t lb);
 
-/* plain_plan by trying every pair of masts, in order of their sum and then of the first mast. */
-struct janlishuk_plan_answer plain_plan_every_pair(const uint8_t *file, size_t length, uint32_t base, uint32_t zone,
-                                                   struct janlishuk_point first, struct janlishuk_point second, uint32_t la, uint32_t lb);
-
-/* A file that was opened and its ground, whose southern boundary and extent to the north are in metres. */
-struct plain_ground {
-    const uint8_t *file;
-    uint32_t zone;
-    uint32_t south;
-    uint32_t extent;
-    uint32_t highest;
-};
-
 /* A path without masts: its N and whether it is clear, or a refusal. */
-struct plain_path_answer {
+struct plain_sight_answer {
     uint32_t refusal;
     uint32_t n;
     uint32_t clear;
 };
 
-/* plain_check, which also gives the ground of a file that passes, for the two calls below. */
-uint32_t plain_open(const uint8_t *file, size_t length, uint32_t base, uint32_t zone, struct plain_ground *ground);
+struct plain_sight_answer plain_sight(const uint8_t *file, size_t length, uint32_t base, uint32_t zone, struct janlishuk_point first,
+                                      struct janlishuk_point second);
 
-struct plain_path_answer plain_path_in(const struct plain_ground *ground, struct janlishuk_point first, struct janlishuk_point second);
-
-struct janlishuk_plan_answer plain_plan_in(const struct plain_ground *ground, struct janlishuk_point first, struct janlishuk_point second, uint32_t la,
-                                           uint32_t lb);
+/* plain_plan by trying every pair of masts, in order of their sum and then of the first mast. */
+struct janlishuk_plan_answer plain_plan_every_pair(const uint8_t *file, size_t length, uint32_t base, uint32_t zone,
+                                                   struct janlishuk_point first, struct janlishuk_point second, uint32_t la, uint32_t lb);
 
 #endif

@@ -16,8 +16,7 @@ static struct janlishuk_point point_of(struct calls_site site)
 /* The refusal of the file's check, or 0 and the file is kept. */
 uint32_t calls_use(const uint8_t *bytes, size_t length, uint32_t base, uint32_t zone)
 {
-    struct plain_ground ground;
-    uint32_t refusal = plain_open(bytes, length, base, zone, &ground);
+    uint32_t refusal = plain_check(bytes, length, base, zone).refusal;
     if (refusal == 0) {
         file = bytes;
         file_length = length;
@@ -30,11 +29,7 @@ uint32_t calls_use(const uint8_t *bytes, size_t length, uint32_t base, uint32_t 
 /* N of the path and the verdict with both masts 0, or the verdict's refusal. */
 struct calls_path_answer calls_path(struct calls_site first, struct calls_site second)
 {
-    struct plain_ground ground;
-    uint32_t refusal = plain_open(file, file_length, file_base, file_zone, &ground);
-    if (refusal != 0)
-        return (struct calls_path_answer){.refusal = refusal};
-    struct plain_path_answer path = plain_path_in(&ground, point_of(first), point_of(second));
+    struct plain_sight_answer path = plain_sight(file, file_length, file_base, file_zone, point_of(first), point_of(second));
     return (struct calls_path_answer){.refusal = path.refusal, .n = path.n, .clear = path.clear};
 }
 
