@@ -1,5 +1,5 @@
-/* The calls check, read, profile, verdict and plan as document 01 and requests b) and f) of document 02 have them, and upload and spot as document
- * 02 has them, in plain C. */
+/* The calls check, read, profile, verdict and plan as document 01 and request b) of document 02 have them, and upload and spot as document 02 has
+ * them, in plain C. */
 #include "plain.h"
 
 #include <stdbool.h>
@@ -27,9 +27,6 @@
 /* The southern boundaries of the bases 0, 4, .. 84, in 500 m units. */
 static const uint16_t southern[] = {0,     899,   1767,  2666,  3534,  4433,  5301,  6200,  7068,  7967,  8866,
                                     9734,  10633, 11532, 12400, 13299, 14198, 15097, 15965, 16864, 17763, 18662};
-
-/* What is allowed for above the ground at a sample, by its surface code, in millimetres: trees 15 m, suburban 9 m, urban 25 m, others 0. */
-static const uint32_t allowances[CODES] = {[1] = 15000, [4] = 9000, [7] = 25000};
 
 /* A file that was opened and its ground, whose southern boundary and extent to the north are in metres. */
 struct ground {
@@ -211,7 +208,7 @@ static inline bool is_record(const struct ground *ground, uint32_t entry)
     return entry - LEAST_RECORDS - 1 < ground->highest - LEAST_RECORDS;
 }
 
-/* Reads a point's exact height and surface code: refusals 4, 5 and 6 in that order, else 0; where the file was only
+/* Reads a point's exact height, and its surface code unless that is null: refusals 4, 5 and 6 in that order, else 0; where the file was only
  * opened, not checked, refusals 4, 3 for an entry that names no record, 5 and 6. */
 static inline __attribute__((always_inline)) uint32_t read_in(const struct ground *ground, const struct janlishuk_point *point, bool checked,
                                                               uint32_t *height, uint8_t *code)
@@ -253,9 +250,11 @@ static inline __attribute__((always_inline)) uint32_t read_in(const struct groun
     if (lacks_height(sw) || lacks_height(se) || lacks_height(nw) || lacks_height(ne))
         return 6;
     *height = sw_weight * (sw % ELEVATIONS) + se_weight * (se % ELEVATIONS) + nw_weight * (nw % ELEVATIONS) + ne_weight * (ne % ELEVATIONS);
-    struct sum of_sw = {sw / ELEVATIONS, sw_weight}, of_se = {se / ELEVATIONS, se_weight};
-    struct sum of_nw = {nw / ELEVATIONS, nw_weight}, of_ne = {ne / ELEVATIONS, ne_weight};
-    *code = (uint8_t)vote(of_sw, of_se, of_nw, of_ne);
+    if (code != NULL) {
+        struct sum of_sw = {sw / ELEVATIONS, sw_weight}, of_se = {se / ELEVATIONS, se_weight};
+        struct sum of_nw = {nw / ELEVATIONS, nw_weight}, of_ne = {ne / ELEVATIONS, ne_weight};
+        *code = (uint8_t)vote(of_sw, of_se, of_nw, of_ne);
+    }
     return 0;
 }
 
@@ -301,7 +300,7 @@ static uint32_t open_path(const uint8_t *file, size_t length, uint32_t base, uin
     return 0;
 }
 
-/* Reads the samples from 0 upward: refusals 4, 5 and 6 at the path's place, else 0. */
+/* Reads the samples from 0 upward, their codes where there is room for them: refusals 4, 5 and 6 at the path's place, else 0. */
 static uint32_t read_samples(struct path *path, uint32_t *heights, uint8_t *codes)
 {
     const struct janlishuk_point first = path->first, second = path->second;
@@ -310,7 +309,7 @@ static uint32_t read_samples(struct path *path, uint32_t *heights, uint8_t *code
     for (uint32_t i = 0; i <= n; i++) {
         sample.easting = ((n - i) * first.easting + i * second.easting) / n;
         sample.northing = ((n - i) * first.northing + i * second.northing) / n;
-        uint32_t refusal = read_point(&path->ground, &sample, &heights[i], &codes[i]);
+        uint32_t refusal = read_point(&path->ground, &sample, &heights[i], codes == NULL ? NULL : &codes[i]);
         if (refusal != 0) {
             path->place = i;
             return refusal;
@@ -319,34 +318,33 @@ static uint32_t read_samples(struct path *path, uint32_t *heights, uint8_t *code
     return 0;
 }
 
-/* Opens a path for masts or mast limits of a and b and reads its samples: refusals 1 to 8 in their order, else 0. */
+/* Opens a path for masts or mast limits of a and b and reads its heights: refusals 1 to 8 in their order, else 0. */
 static uint32_t read_link(const uint8_t *file, size_t length, uint32_t base, uint32_t zone, struct janlishuk_point first,
-                          struct janlishuk_point second, uint32_t a, uint32_t b, struct path *path, uint32_t *heights, uint8_t *codes)
+                          struct janlishuk_point second, uint32_t a, uint32_t b, struct path *path, uint32_t *heights)
 {
     uint32_t refusal = open_path(file, length, base, zone, first, second, path);
     if (refusal != 0)
         return refusal;
     if (a > MOST_MAST || b > MOST_MAST)
         return 8;
-    return read_samples(path, heights, codes);
+    return read_samples(path, heights, NULL);
 }
 
-/* N (T + G) at sample i, in millimetres: T is the height rounded up and the code's allowance, G is rounded up. */
-static inline uint32_t need(const struct path *path, const uint32_t *heights, const uint8_t *codes, uint32_t i)
+/* N (T + G) at sample i, in millimetres: T and G are each rounded up. */
+static inline uint32_t need(const struct path *path, const uint32_t *heights, uint32_t i)
 {
     uint64_t n = path->n, divisor = 17000 * n * n;
     uint64_t curve = (path->q * (i * (n - i)) + divisor - 1) / divisor;
-    return path->n * ((heights[i] + 249) / 250 + allowances[codes[i]] + (uint32_t)curve);
+    return path->n * ((heights[i] + 249) / 250 + (uint32_t)curve);
 }
 
-/* Reads the samples of a path and finds what each of its samples needs: refusals 1 to 8 in their order, else 0. */
+/* Reads the heights of a path and finds what each of its samples needs: refusals 1 to 8 in their order, else 0. */
 static uint32_t find_needs(const uint8_t *file, size_t length, uint32_t base, uint32_t zone, struct janlishuk_point first,
                            struct janlishuk_point second, uint32_t la, uint32_t lb, struct needs *needs)
 {
     struct path path;
     uint32_t heights[JANLISHUK_ROOM];
-    uint8_t codes[JANLISHUK_ROOM];
-    uint32_t refusal = read_link(file, length, base, zone, first, second, la, lb, &path, heights, codes);
+    uint32_t refusal = read_link(file, length, base, zone, first, second, la, lb, &path, heights);
     needs->place = path.place;
     if (refusal != 0)
         return refusal;
@@ -354,7 +352,7 @@ static uint32_t find_needs(const uint8_t *file, size_t length, uint32_t base, ui
     needs->first = heights[0] / 250;
     needs->second = heights[path.n] / 250;
     for (uint32_t i = 1; i < path.n; i++)
-        needs->at[i] = need(&path, heights, codes, i);
+        needs->at[i] = need(&path, heights, i);
     return 0;
 }
 
@@ -446,13 +444,12 @@ struct janlishuk_profile_answer plain_profile(const uint8_t *file, size_t length
     return answer;
 }
 
-/* Whether a path whose samples were read is clear with masts a and b, up to the first sample that blocks. */
-static inline __attribute__((always_inline)) bool sees(const struct path *path, const uint32_t *heights, const uint8_t *codes, uint32_t a,
-                                                       uint32_t b)
+/* Whether a path whose heights were read is clear with masts a and b, up to the first sample that blocks. */
+static inline __attribute__((always_inline)) bool sees(const struct path *path, const uint32_t *heights, uint32_t a, uint32_t b)
 {
     uint32_t n = path->n, top_a = heights[0] / 250 + 1000 * a, top_b = heights[n] / 250 + 1000 * b;
     for (uint32_t i = 1; i < n; i++) {
-        if ((n - i) * top_a + i * top_b < need(path, heights, codes, i))
+        if ((n - i) * top_a + i * top_b < need(path, heights, i))
             return false;
     }
     return true;
@@ -464,11 +461,10 @@ struct janlishuk_verdict_answer plain_verdict(const uint8_t *file, size_t length
 {
     struct path path;
     uint32_t heights[JANLISHUK_ROOM];
-    uint8_t codes[JANLISHUK_ROOM];
-    uint32_t refusal = read_link(file, length, base, zone, first, second, a, b, &path, heights, codes);
+    uint32_t refusal = read_link(file, length, base, zone, first, second, a, b, &path, heights);
     if (refusal != 0)
         return (struct janlishuk_verdict_answer){.refusal = refusal, .place = path.place};
-    if (!sees(&path, heights, codes, a, b))
+    if (!sees(&path, heights, a, b))
         return (struct janlishuk_verdict_answer){.clear = 0};
     return (struct janlishuk_verdict_answer){.clear = 1};
 }
@@ -479,11 +475,10 @@ struct plain_sight_answer plain_sight(const uint8_t *file, size_t length, uint32
 {
     struct path path;
     uint32_t heights[JANLISHUK_ROOM];
-    uint8_t codes[JANLISHUK_ROOM];
-    uint32_t refusal = read_link(file, length, base, zone, first, second, 0, 0, &path, heights, codes);
+    uint32_t refusal = read_link(file, length, base, zone, first, second, 0, 0, &path, heights);
     if (refusal != 0)
         return (struct plain_sight_answer){.refusal = refusal};
-    return (struct plain_sight_answer){.n = path.n, .clear = sees(&path, heights, codes, 0, 0)};
+    return (struct plain_sight_answer){.n = path.n, .clear = sees(&path, heights, 0, 0)};
 }
 
 /* The mast plan. Raising the first mast never raises the least second mast, so the two go over the pairs as down a staircase. */

@@ -43,11 +43,6 @@
  * Surface codes: 0 unknown, 1 trees, 2 bare, 3 fresh water, 4 suburban, 5 marsh, 6 sea water, 7 urban. Where the corners around a
  * point have several, its code is the one whose corners weigh most together, and of two that weigh the same the smaller.
  *
- * What stands on the ground. A height is that of the ground. janlishuk_verdict and janlishuk_plan allow besides, at each sample between the
- * ends of a path, for what the sample's code says stands there: 15 m at trees (1), 9 m at suburban (4), 25 m at urban (7), and nothing at
- * the other codes. The two end samples get no such allowance, whatever their code. No other call knows it: whoever draws a profile with what
- * stands on it adds 3,750,000, 2,250,000 or 6,250,000 (1/250,000 m) to the heights between its ends.
- *
  * The library is x86-64 code with the System V calling convention. A call needs less than 8 KB of stack and, of the C library, memcpy
  * and memset. Its doubles are those of the rounding mode that a C program starts with; a caller that has changed it gets other last
  * digits. */
@@ -202,15 +197,15 @@ struct janlishuk_profile_answer janlishuk_profile(const uint8_t *file, size_t le
                                                   struct janlishuk_point first, struct janlishuk_point second);
 
 /* Whether the path is clear with masts of a metres at the first end and b metres at the second, each 0 to 100: whether at each sample
- * between the ends the line between the mast tops is not below the ground, with the allowance for what stands on it and the bulge of an
- * earth of 8,500 km effective radius. Touching is clear, and so is every path of n = 1. Heights are rounded so that a path can only look
- * worse than it is. clear: 1, or 0 where it is blocked. Refusals 1 to 8. */
+ * between the ends the line between the mast tops is not below the ground and the bulge of an earth of 8,500 km effective radius.
+ * Touching is clear, and so is every path of n = 1. Heights are rounded so that a path can only look worse than it is. clear: 1, or 0
+ * where it is blocked. Refusals 1 to 8. */
 struct janlishuk_verdict_answer janlishuk_verdict(const uint8_t *file, size_t length, uint32_t base, uint32_t zone,
                                                   struct janlishuk_point first, struct janlishuk_point second, uint32_t a, uint32_t b);
 
 /* Plans the two masts of a path. la and lb: the limits of the first and the second mast, 0 to 100 m. first and second: the masts in
- * whole metres, each within its limit, that make the path clear as janlishuk_verdict judges it, trees and houses between the ends
- * included; no clear pair has a smaller sum, nor the same sum with a lower first mast. Refusals 1 to 9. */
+ * whole metres, each within its limit, that make the path clear; no clear pair has a smaller sum, nor the same sum with a lower first
+ * mast. Refusals 1 to 9. */
 struct janlishuk_plan_answer janlishuk_plan(const uint8_t *file, size_t length, uint32_t base, uint32_t zone, struct janlishuk_point first,
                                             struct janlishuk_point second, uint32_t la, uint32_t lb);
 

@@ -7,8 +7,7 @@
 #define EAST_LINES 1501
 #define NORTH_LINES 900
 
-/* Ground in the making: an elevation is the sum of what stands for its two unit lines and a drawn part, and so is a code, or it is drawn,
- * or every `band` metres of elevation have their own. */
+/* Ground in the making: an elevation is the sum of what stands for its two unit lines and a drawn part, and so is a code. */
 struct ground {
     int32_t east[EAST_LINES];
     int32_t north[NORTH_LINES];
@@ -16,7 +15,6 @@ struct ground {
     uint8_t code_north[NORTH_LINES];
     uint32_t noise;
     uint32_t drawn_codes;
-    uint32_t band;
     bool flat;
 };
 
@@ -231,31 +229,17 @@ static void draw_elevations(const struct file *file)
     }
 }
 
-/* Chooses the codes: one for all, drawn for every word from a choice of two to eight codes, in stripes, in patches, or by the elevation, so
- * that hills are wooded and valleys built upon, or otherwise. */
+/* Chooses the codes: one for all, drawn for every word from a choice of two to eight codes, or in stripes and patches. */
 static void draw_codes(void)
 {
-    uint32_t kind = below(100);
-    bool one = kind < 22;
-    bool patches = kind < 44 && !one;
+    uint32_t kind = below(4);
     uint32_t same = below(8);
     uint32_t kinds = between(2, 8);
-    ground.drawn_codes = kind >= 72 ? kinds : 0;
-    ground.band = kind >= 60 && kind < 72 ? between(3, 40) : 0;
+    ground.drawn_codes = kind == 0 ? kinds : 0;
     for (uint32_t k = 0; k < EAST_LINES; k++)
-        ground.code_east[k] = (uint8_t)(one ? same : chance(60) && k > 0 ? ground.code_east[k - 1] : below(kinds));
+        ground.code_east[k] = (uint8_t)(kind == 1 ? same : chance(60) && k > 0 ? ground.code_east[k - 1] : below(kinds));
     for (uint32_t k = 0; k < NORTH_LINES; k++)
-        ground.code_north[k] = (uint8_t)(!patches ? 0 : chance(60) && k > 0 ? ground.code_north[k - 1] : below(kinds));
-}
-
-/* The code of a word where unit lines x and y meet, by its elevation and by drawn bits. */
-static uint32_t code_at(uint32_t x, uint32_t y, uint32_t elevation, uint64_t bits)
-{
-    if (ground.drawn_codes > 0)
-        return (uint32_t)(bits >> 61) % ground.drawn_codes;
-    if (ground.band > 0)
-        return elevation / ground.band % 8;
-    return (uint32_t)(ground.code_east[x] + ground.code_north[y]) % 8;
+        ground.code_north[k] = (uint8_t)(kind != 3 ? 0 : chance(60) && k > 0 ? ground.code_north[k - 1] : below(kinds));
 }
 
 /* Writes the 16 by 32 words of a rectangle into its record. */
@@ -270,7 +254,9 @@ static void write_record(uint8_t *record, uint32_t rectangle)
         uint64_t bits = drawn ? draw() : 0;
         int32_t elevation = ground.east[x] + ground.north[y] + (int32_t)(((bits & 0xFFFFFFFF) * ground.noise) >> 32);
         elevation = elevation < 0 ? 0 : elevation > 8190 ? 8190 : elevation;
-        put(record + 2 * k, 8192 * code_at(x, y, (uint32_t)elevation, bits) + (uint32_t)elevation);
+        uint32_t striped = (uint32_t)(ground.code_east[x] + ground.code_north[y]) % 8;
+        uint32_t code = ground.drawn_codes > 0 ? (uint32_t)(bits >> 61) % ground.drawn_codes : striped;
+        put(record + 2 * k, 8192 * code + (uint32_t)elevation);
     }
 }
 

@@ -125,7 +125,7 @@ static struct path draw_home_path(const struct file *file, uint32_t base, uint32
 /* A path for a question: a planted one, one on a seam, one within the home, or one with an end or both of them anywhere. */
 struct path draw_path(const struct file *file, uint32_t base, uint32_t zone, bool *planted)
 {
-    *planted = file->planted_count > 0 && chance(26);
+    *planted = file->planted_count > 0 && chance(20);
     if (*planted)
         return file->planted[below(file->planted_count)];
     struct path path = chance(file->corner_count > 0 ? 60 : 8) ? draw_seam_path(file, base, zone) : draw_home_path(file, base, zone);

@@ -1,4 +1,4 @@
-/* The rules of document 01, and of requests a), b), c) and f) of document 02, sentence by sentence. All arithmetic is in 64 bits, in which
+/* The rules of document 01, and of requests a), b) and c) of document 02, sentence by sentence. All arithmetic is in 64 bits, in which
  * nothing here can overflow: what a caller passes is multiplied only after it was found on the ground or within its limit. */
 #include "rules.h"
 
@@ -484,19 +484,7 @@ static int64_t rounded_up(uint64_t height)
     return (int64_t)(height * 1000 / 250000 + (height * 1000 % 250000 != 0));
 }
 
-/* The allowance in millimetres for what stands on the ground, by code: trees 15 m, suburban 9 m, urban 25 m, others 0. */
-int64_t rules_allowance(uint64_t code)
-{
-    switch (code) {
-    case 1: return 15000;
-    case 4: return 9000;
-    case 7: return 25000;
-    default: return 0;
-    }
-}
-
-/* The figures of the clear test that do not depend on the masts. Between the ends, T is the height rounded up plus the allowance; end
- * samples get none. */
+/* The figures of the clear test that do not depend on the masts. */
 struct rules_sight rules_sight(const struct janlishuk_profile_answer *profile, uint64_t q)
 {
     struct rules_sight sight = {0};
@@ -504,7 +492,7 @@ struct rules_sight rules_sight(const struct janlishuk_profile_answer *profile, u
     sight.first = rounded_down(profile->heights[0]);
     sight.last = rounded_down(profile->heights[sight.n]);
     for (int64_t i = 1; i <= sight.n - 1; i++) {
-        int64_t t = rounded_up(profile->heights[i]) + rules_allowance(profile->codes[i]);
+        int64_t t = rounded_up(profile->heights[i]);
         int64_t g = (int64_t)rules_bulge(q, (uint64_t)sight.n, (uint64_t)i);
         sight.need[i] = sight.n * (t + g);
     }
@@ -542,7 +530,7 @@ struct janlishuk_verdict_answer rules_verdict(struct rules_file file, struct jan
 }
 
 /* The first clear pair, in order of the sum and then of the first mast, with each mast within its limit; else refusal 9. */
-struct janlishuk_plan_answer rules_first_pair(const struct rules_sight *sight, uint64_t la, uint64_t lb)
+static struct janlishuk_plan_answer first_clear_pair(const struct rules_sight *sight, uint64_t la, uint64_t lb)
 {
     for (uint64_t sum = 0; sum <= la + lb; sum++)
         for (uint64_t first = 0; first <= sum; first++) {
@@ -563,7 +551,7 @@ struct janlishuk_plan_answer rules_plan(struct rules_file file, struct janlishuk
     if (profile.refusal != 0)
         return (struct janlishuk_plan_answer){.refusal = profile.refusal, .place = profile.place};
     struct rules_sight sight = rules_sight(&profile, rules_square(first, second));
-    return rules_first_pair(&sight, la, lb);
+    return first_clear_pair(&sight, la, lb);
 }
 
 /* An engine row: the height of sample i in metres, and its share of the way, i divided once by N. It is given only where the whole profile

@@ -1,4 +1,4 @@
-/* The rules of document 01, and of requests a), b), c) and f) of document 02, a second time, in plain C and from the documents alone. The
+/* The rules of document 01, and of requests a), b) and c) of document 02, a second time, in plain C and from the documents alone. The
  * answers have the types of janlishuk.h, so that they can be compared field by field with the library's; nothing else of the library is
  * used. */
 #ifndef RULES_H
@@ -105,10 +105,8 @@ uint64_t rules_square(struct janlishuk_point first, struct janlishuk_point secon
 uint64_t rules_steps(uint64_t q);
 struct janlishuk_point rules_sample(struct janlishuk_point first, struct janlishuk_point second, uint64_t n, uint64_t i);
 uint64_t rules_bulge(uint64_t q, uint64_t n, uint64_t i);
-int64_t rules_allowance(uint64_t code);
 struct rules_sight rules_sight(const struct janlishuk_profile_answer *profile, uint64_t q);
 int64_t rules_spare(const struct rules_sight *sight, int64_t i, int64_t a, int64_t b);
 bool rules_clear(const struct rules_sight *sight, int64_t a, int64_t b);
-struct janlishuk_plan_answer rules_first_pair(const struct rules_sight *sight, uint64_t la, uint64_t lb);
 
 #endif

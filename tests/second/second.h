@@ -66,7 +66,7 @@ struct missing {
     uint32_t word;
 };
 
-/* A path, and masts for it: for a planted one, masts with which it touches the ground, or what stands on it, or nearly does. */
+/* A path, and masts for it: for a planted one, masts with which it touches the ground or nearly does. */
 struct path {
     struct janlishuk_point first;
     struct janlishuk_point second;

@@ -138,8 +138,6 @@ static void tally_given_path(const struct file *file, const struct question *q, 
     struct rules_sight sight = rules_sight(&profile, rules_square(q->first, q->second));
     tally_path(q, profile.n);
     tally_taken(q->call, tally_samples(opened(file, q->base, q->zone), q, profile.n));
-    if (q->call == VERDICT || q->call == PLAN)
-        tally_trees(q, &profile, answer);
     if (q->call == PLAN)
         tally_plan(q, &sight, answer->plan.first, answer->plan.second);
     if (q->call != VERDICT)
@@ -149,14 +147,6 @@ static void tally_given_path(const struct file *file, const struct question *q, 
     count_if(answer->verdict.clear == 0, BLOCKED);
     count_if(spare == 0, TOUCHING);
     count_if(spare < 0 && spare >= -sight.n, HAIR);
-}
-
-/* Counts a plan for which there is no pair. */
-static void tally_no_pair(const struct file *file, const struct question *q, const union answer *answer)
-{
-    struct janlishuk_profile_answer profile = rules_profile(opened(file, q->base, q->zone), q->first, q->second);
-    count_if(true, PLAN_NO_PAIR);
-    tally_trees(q, &profile, answer);
 }
 
 /* Counts what kind of refusal was met, of a point or a path. */
@@ -178,6 +168,7 @@ static void tally_refusal(const struct file *file, const struct question *q, uin
         count_if(rules_profile(opened(file, q->base, q->zone), q->first, q->second).refusal != 0, MAST_FIRST);
     count_if(refusal == 5 && place > 0, PLACE_5);
     count_if(refusal == 6 && place > 0, PLACE_6);
+    count_if(refusal == 9, PLAN_NO_PAIR);
     count_if(refusal == 5 && !path && rules_rectangle(q->base, q->first) == 0, NOWHERE);
     if (place > 0 && second_on_ground)
         count_if(place == rules_steps(rules_square(q->first, q->second)), PLACE_LAST);
@@ -315,8 +306,6 @@ void tally_answer(const struct file *file, const struct question *q, const union
         tally_refused_upload(&q->survey, refusal);
         return;
     }
-    if (refusal == 9)
-        tally_no_pair(file, q, answer);
     if (refusal != 0) {
         tally_refusal(file, q, refusal, answer->check.place);
         return;
@@ -344,14 +333,6 @@ void print_counts(const char *name, const uint64_t *counts, int count)
     printf("\n");
 }
 
-/* Prints a line of counts after a name that may be long. */
-void print_wide_counts(const char *name, const uint64_t *counts, int count)
-{
-    char padded[40];
-    snprintf(padded, sizeof padded, "%-34s", name);
-    print_counts(padded, counts, count);
-}
-
 /* Prints all that was counted. */
 void print_tally(void)
 {
@@ -361,7 +342,6 @@ void print_tally(void)
     printf("\n%-46s %6s\n", "kind of answer", "times");
     for (int kind = 0; kind < KIND_COUNT; kind++)
         printf("%-46s %6" PRIu64 "\n", kind_texts[kind], kinds[kind]);
-    print_trees();
     print_votes();
     print_seams();
     print_spots();
@@ -405,7 +385,6 @@ bool tally_lacks(void)
                 any |= lacks(refusals[call][refusal], call_name((enum call)call), "refusal", refusal);
     for (int kind = 0; kind < KIND_COUNT; kind++)
         any |= lacks(kinds[kind], "kind of answer,", kind_texts[kind], -1);
-    any |= trees_lack();
     any |= votes_lack();
     any |= seams_lack();
     any |= spots_lack();

@@ -20,11 +20,6 @@
     K(PLAN_TOUCHING, "plan: touching exactly") \
     K(PLAN_TIE, "plan: another clear pair of that sum") \
     K(PLAN_LIMITED, "plan: a mast at a limit below 100") \
-    K(PLAN_AS_BARE, "plan: no higher for an allowance between") \
-    K(BETWEEN_NONE, "path judged: no allowance between the ends") \
-    K(BETWEEN_NONE_BUT_END, "path judged: an allowance at an end alone") \
-    K(STEP_WITH_END, "path judged: N = 1, an allowance at an end") \
-    K(BETWEEN_ALL, "path judged: all eight codes between the ends") \
     K(STEPS_ONE, "path given: N = 1") \
     K(STEPS_LONG, "path given: N = 150 to 200") \
     K(STEPS_MOST, "path given: N = 200") \
@@ -178,7 +173,6 @@ enum kind { KINDS(KIND_ENUM) KIND_COUNT };
 void count_if(bool holds, enum kind kind);
 bool weightless_missing(const struct rules_corner corners[4]);
 void print_counts(const char *name, const uint64_t *counts, int count);
-void print_wide_counts(const char *name, const uint64_t *counts, int count);
 bool lacks(uint64_t count, const char *what, const char *which, int number);
 
 /* tally_seams.c */
@@ -193,11 +187,6 @@ bool seams_lack(void);
 void tally_vote(const struct rules_corner corners[4], uint64_t code);
 void print_votes(void);
 bool votes_lack(void);
-
-/* tally_trees.c */
-void tally_trees(const struct question *question, const struct janlishuk_profile_answer *profile, const union answer *answer);
-void print_trees(void);
-bool trees_lack(void);
 
 /* tally_spots.c */
 bool tally_spot(const struct file *file, const struct question *question, uint32_t refusal);

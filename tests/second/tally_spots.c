@@ -208,6 +208,14 @@ void tally_blind(uint32_t refusal)
     asked_blind[refusal]++;
 }
 
+/* Prints a line of counts by refusal after the name of a damage, which may be long. */
+static void print_damage(const char *name, const uint64_t *counts)
+{
+    char padded[40];
+    snprintf(padded, sizeof padded, "%-34s", name);
+    print_counts(padded, counts, REFUSALS);
+}
+
 /* Prints what was counted of spots. */
 void print_spots(void)
 {
@@ -227,9 +235,9 @@ void print_spots(void)
     for (int row = 0; row < ROWS; row++)
         print_counts(row_names[row], by_rectangle[row], RULES_NONE);
     printf("\nspots by damage and refusal\n");
-    print_wide_counts("damage", numbers, REFUSALS);
+    print_damage("damage", numbers);
     for (enum damage kind = 0; kind < DAMAGE_KINDS; kind++)
-        print_wide_counts(damage_name(kind), by_damage[kind], REFUSALS);
+        print_damage(damage_name(kind), by_damage[kind]);
 }
 
 /* Says what never came up at spots, a line for each, and answers whether there is any. A spot is answered as a reading is, or the reading

@@ -1,4 +1,4 @@
-/* The shell's questions answered by the rules of document 01 and of request f) of document 02, as tests/second has them. */
+/* The shell's questions answered by the rules of document 01, as tests/second has them. */
 #include "calls.h"
 #include "rules.h"
 

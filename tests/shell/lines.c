@@ -136,7 +136,7 @@ static struct site draw_outside(void)
 static struct site draw_about(struct site earlier)
 {
     struct area area = area_of(home);
-    uint32_t reach = chance(25) ? 400 : chance(60) ? 1200 : 6000;
+    uint32_t reach = chance(40) ? 400 : 6000;
     struct site site = earlier;
     bool far = site.easting - area.easting < area.width - LONGEST_EAST && site.northing - area.northing < area.height - LONGEST_NORTH;
     if (chance(15))

@@ -6,8 +6,8 @@
  *   sessions measured SEED KIND LINES           writes a session whose instructions are to be counted
  *   sessions compare SESSION ANSWERS ANSWERS    shows the first line of a session to which the answers differ, and then ends with 1
  *   sessions tally FOLDER COUNT NEEDED          counts what came up in the sessions 0 to COUNT - 1 of a folder, which are FOLDER/session.NUMBER with
- *                                               FOLDER/second.NUMBER, over the files of FOLDER/terrain, and ends with 1 where something that can come
- *                                               up never did, if NEEDED is 1, or where an answer is wrong by its form
+ *                                               FOLDER/second.NUMBER, and ends with 1 where something that can come up never did, if NEEDED is 1, or
+ *                                               where an answer is wrong by its form
  *
  * The files and sessions of a seed are always the same. */
 #include <inttypes.h>
@@ -32,7 +32,7 @@ static uint64_t number_of(const char *argument)
 }
 
 /* The bytes of a file; ends the program where it cannot be read. */
-struct bytes read_file(const char *path)
+static struct bytes read_file(const char *path)
 {
     struct bytes bytes = {0};
     size_t room = 0, count;
@@ -96,7 +96,6 @@ static int compare(char **paths)
 /* Counts what came up in sessions; 1 where something that is needed did not. */
 static int tally(const char *folder, uint64_t count, bool needed)
 {
-    tally_folder(folder);
     for (uint64_t number = 0; number < count; number++) {
         char session[4096], second[4096];
         snprintf(session, sizeof session, "%s/session.%" PRIu64, folder, number);

@@ -42,14 +42,12 @@ enum relief { FLAT, HILLS, BOWL, ROUGH };
  * south-western corner, where rectangle 0 is, or in the north-eastern one. */
 enum where { NOWHERE, SOUTH, SOUTH_WEST, NORTH_EAST };
 
-/* A file of the folder: its name, where it has records, its relief, on how many of a hundred patches of its ground woods, suburbs or towns stand, how
- * many of a hundred rectangles of the box it does not cover, how many words have no height, how many records beyond those of rectangles it has below
- * and above M, and its fault. On rough ground they stand anywhere. */
+/* A file of the folder: its name, where it has records, its relief, how many of a hundred rectangles of the box it does not cover, how many words
+ * have no height, how many records beyond those of rectangles it has below and above M, and its fault. */
 struct terrain {
     char name[FILE_NAME + 1];
     enum where where;
     enum relief relief;
-    uint32_t percent_standing;
     uint32_t percent_left_out;
     uint32_t missing;
     uint32_t loose;
@@ -124,9 +122,6 @@ uint32_t below(uint32_t bound);
 uint32_t between(uint32_t least, uint32_t most);
 bool chance(uint32_t percent);
 
-/* sessions.c */
-struct bytes read_file(const char *path);
-
 /* terrain.c */
 extern const struct terrain terrains[];
 extern const uint32_t terrain_count;
@@ -153,7 +148,6 @@ bool write_measured(const char *kind, uint32_t lines);
 
 /* tally.c */
 bool next_line(struct bytes *rest, struct bytes *line);
-void tally_folder(const char *folder);
 void tally_session(struct bytes session, struct bytes answers);
 void print_tally(void);
 void print_summary(void);

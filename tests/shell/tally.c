@@ -1,11 +1,9 @@
 /* Counting what came up in sessions and their answers, and what should have come up and did not. On the way each answer is looked at for its form,
- * and each bad column compared with that of grammar.c. What paths and masts would be if nothing stood on the ground is asked of the rules of
- * tests/second. */
+ * and each bad column compared with that of grammar.c. */
 #include <inttypes.h>
 #include <stdlib.h>
 #include <string.h>
 
-#include "rules.h"
 #include "sessions.h"
 
 /* Every kind of line and answer that is counted: its name here and its name in the table. */
@@ -31,12 +29,6 @@
     K(PATH_KEPT, "path: given after a use that was refused") \
     K(PATH_ZONE, "path: given after one in another zone") \
     K(PATH_OTHERWISE, "path: given otherwise than in another zone") \
-    K(PATH_TREES, "path: blocked only by trees") \
-    K(PATH_SUBURB, "path: blocked only by a suburb") \
-    K(PATH_TOWN, "path: blocked only by a town") \
-    K(PATH_OVER, "path: clear over trees or houses") \
-    K(PATH_AT_END, "path: clear, trees or houses at an end") \
-    K(PATH_FROM_TOPS, "path: blocked, clear from the tops at its ends") \
     K(PATH_1, "path: refused 1, before any use") \
     K(PATH_4, "path: refused 4") \
     K(PATH_5, "path: refused 5") \
@@ -49,11 +41,6 @@
     K(MASTS_SECOND, "masts: only the second above 0") \
     K(MASTS_BOTH, "masts: both above 0") \
     K(MASTS_KEPT, "masts: given after a use that was refused") \
-    K(MASTS_TREES, "masts: higher for trees alone") \
-    K(MASTS_SUBURB, "masts: higher for a suburb alone") \
-    K(MASTS_TOWN, "masts: higher for a town alone") \
-    K(MASTS_OVER, "masts: no higher over trees or houses") \
-    K(MASTS_AT_END, "masts: one lower than trees or houses there") \
     K(MASTS_1, "masts: refused 1, before any use") \
     K(MASTS_4, "masts: refused 4") \
     K(MASTS_5, "masts: refused 5") \
@@ -63,7 +50,6 @@
     K(MASTS_8_FIRST, "masts: refused 8 for the first limit alone") \
     K(MASTS_8_SECOND, "masts: refused 8 for the second limit alone") \
     K(MASTS_9, "masts: refused 9") \
-    K(MASTS_9_STANDING, "masts: refused 9 only for trees or houses") \
     K(UNKNOWN_FIRST, "unknown: the first name alone") \
     K(UNKNOWN_SECOND, "unknown: the second name alone") \
     K(UNKNOWN_BOTH, "unknown: both names") \
@@ -128,32 +114,12 @@ struct site {
     char northing[MOST_DIGITS + 1];
 };
 
-/* The folder whose terrain files the sessions are about. */
-static const char *folder;
-
-/* Surface codes of trees, suburbs and towns, which have an allowance, and of bare ground. */
-#define TREES 1
-#define SUBURB 4
-#define TOWN 7
-#define BARE 2
-
-/* A path as the rules judge it: the codes with an allowance that samples between its ends have, a bit for each, the allowance that a sample between
- * would have at each end, in metres, and the figures of the clear test, with what stands on the ground and as if it were bare. */
-struct link {
-    uint32_t standing;
-    int64_t first_top;
-    int64_t last_top;
-    struct rules_sight sight;
-    struct rules_sight bare;
-};
-
-/* What is known of the session: its sites, the last name refused because it was full, the name of the file in use and its bytes, whether a `use` was
- * refused since, and the last path that was given, with its file. */
+/* What is known of the session: its sites, the last name refused because it was full, the name of the file in use, whether a `use` was refused since,
+ * and the last path that was given, with its file. */
 static struct site sites[MOST_SITES];
 static uint32_t site_count;
 static char crowded[MOST_NAME + 1];
 static char in_use[FILE_NAME + 1];
-static struct bytes ground;
 static bool refused_since;
 static char last_path[64];
 static char last_answer[64];
@@ -211,82 +177,6 @@ static const struct site *site_named(const char *name)
     return NULL;
 }
 
-/* Takes the files of this folder's folder `terrain` to be those that the sessions are about. */
-void tally_folder(const char *named)
-{
-    folder = named;
-}
-
-/* Loads a file that is in use from now on. */
-static void load_ground(const char *name)
-{
-    char path[4096];
-    snprintf(path, sizeof path, "%s/terrain/%s", folder, name);
-    free(ground.start);
-    ground = read_file(path);
-}
-
-/* A site that is held, as a point in the zone of the file in use. */
-static struct janlishuk_point point_of(const char *name)
-{
-    const struct site *site = site_named(name);
-    return (struct janlishuk_point){.zone = zone_of(in_use), .easting = (uint32_t)atoi(site->easting), .northing = (uint32_t)atoi(site->northing)};
-}
-
-/* Whether a file is in use and both sites of a line are held. */
-static bool has_link(const struct parts *line)
-{
-    return in_use[0] != '\0' && site_named(line->words[1]) != NULL && site_named(line->words[2]) != NULL;
-}
-
-/* The path between the two sites of a line, in the file in use; there are such, and it is not refused. */
-static struct link judge_link(const struct parts *line)
-{
-    struct rules_file file = {.bytes = ground.start, .length = ground.length, .base = base_of(in_use), .zone = zone_of(in_use)};
-    struct janlishuk_point first = point_of(line->words[1]), second = point_of(line->words[2]);
-    struct janlishuk_profile_answer profile = rules_profile(file, first, second);
-    struct link link = {.sight = rules_sight(&profile, rules_square(first, second))};
-    link.first_top = rules_allowance(profile.codes[0]) / 1000;
-    link.last_top = rules_allowance(profile.codes[profile.n]) / 1000;
-    for (uint32_t i = 1; i < profile.n; i++)
-        link.standing |= rules_allowance(profile.codes[i]) > 0 ? 1u << profile.codes[i] : 0;
-    memset(profile.codes, BARE, sizeof profile.codes);
-    link.bare = rules_sight(&profile, rules_square(first, second));
-    return link;
-}
-
-/* Counts a line `path` that was given, by what stands on the ground. */
-static void tally_standing_path(const struct parts *line, const struct parts *answer)
-{
-    struct link link = judge_link(line);
-    bool clear = strcmp(answer->words[2], "clear") == 0;
-    bool only = !clear && rules_clear(&link.bare, 0, 0);
-    bool at_end = link.sight.n > 1 && (link.first_top > 0 || link.last_top > 0);
-    count_if(only && link.standing == 1u << TREES, PATH_TREES);
-    count_if(only && link.standing == 1u << SUBURB, PATH_SUBURB);
-    count_if(only && link.standing == 1u << TOWN, PATH_TOWN);
-    count_if(clear && link.standing != 0, PATH_OVER);
-    count_if(clear && at_end, PATH_AT_END);
-    count_if(!clear && rules_clear(&link.sight, link.first_top, link.last_top), PATH_FROM_TOPS);
-}
-
-/* Counts a line `masts` that was given or refused with 9, by what stands on the ground. */
-static void tally_standing_masts(const struct parts *line, const struct parts *answer)
-{
-    struct link link = judge_link(line);
-    struct janlishuk_plan_answer bare = rules_first_pair(&link.bare, (uint64_t)atoi(line->words[3]), (uint64_t)atoi(line->words[4]));
-    bool given = strcmp(answer->words[0], "masts") == 0;
-    uint32_t first = (uint32_t)atoi(answer->words[1]), second = (uint32_t)atoi(answer->words[2]);
-    bool higher = given && first + second > bare.first + bare.second;
-    bool lower = given && link.sight.n > 1 && (first < link.first_top || second < link.last_top);
-    count_if(higher && link.standing == 1u << TREES, MASTS_TREES);
-    count_if(higher && link.standing == 1u << SUBURB, MASTS_SUBURB);
-    count_if(higher && link.standing == 1u << TOWN, MASTS_TOWN);
-    count_if(given && !higher && link.standing != 0, MASTS_OVER);
-    count_if(lower, MASTS_AT_END);
-    count_if(!given && bare.refusal == 0, MASTS_9_STANDING);
-}
-
 /* Counts a line `use` with its answer. */
 static void tally_use(const struct parts *line, const struct parts *answer)
 {
@@ -309,10 +199,8 @@ static void tally_use(const struct parts *line, const struct parts *answer)
     count_if(!given && in_use[0] != '\0', USE_KEPT);
     count_if(!given && in_use[0] == '\0', USE_NONE);
     refused_since = !given;
-    if (!given)
-        return;
-    strcpy(in_use, name);
-    load_ground(name);
+    if (given)
+        strcpy(in_use, name);
 }
 
 /* Counts a line `site` with its answer. */
@@ -430,10 +318,6 @@ static void tally_legal(enum command command, const char *line, const char *text
     refused_count += refused;
     if (linked && in_use[0] != '\0')
         links[terrain_named((const uint8_t *)in_use) - terrains]++;
-    if (command == PATH && linked && has_link(&parts))
-        tally_standing_path(&parts, &answer);
-    if (command == MASTS && (linked || (refused && refusal == 9)) && has_link(&parts))
-        tally_standing_masts(&parts, &answer);
     if (command == USE)
         tally_use(&parts, &answer);
     else if (command == SITE)

@@ -18,43 +18,37 @@
 #define RECTANGLE_EAST 7500
 #define RECTANGLE_NORTH 15500
 
-/* Unit lines of a patch of ground that has one surface code, and how many patches a box has to the east and to the north. */
-#define PATCH 5
-#define EAST_PATCHES ((EAST_LINES + PATCH - 1) / PATCH)
-#define NORTH_PATCHES ((NORTH_LINES + PATCH - 1) / PATCH)
-
 /* Surface code of bare ground. */
 #define BARE 2
 
 /* The files that the sessions name, but for those that are not there. Those of one base that lie in the same box have the same places covered. */
 const struct terrain terrains[] = {
-    {"NK17", SOUTH, FLAT, 0, 0, 0, 0, 0, SOUND},
-    {"NK18", SOUTH, HILLS, 35, 0, 40, 0, 0, SOUND},
-    {"NK09", SOUTH, BOWL, 2, 0, 0, 0, 0, SOUND},
-    {"NK31", SOUTH, ROUGH, 0, 15, 60, 2, 1, SOUND},
-    {"NK33", SOUTH, BOWL, 14, 0, 0, 0, 0, SOUND},
-    {"NK60", NOWHERE, FLAT, 0, 0, 0, 0, 0, SOUND},
-    {"NA01", SOUTH_WEST, HILLS, 35, 0, 20, 1, 0, SOUND},
-    {"NA60", SOUTH_WEST, BOWL, 6, 8, 0, 0, 1, SOUND},
-    {"NU60", NORTH_EAST, BOWL, 6, 0, 10, 0, 0, SOUND},
-    {"NU01", NORTH_EAST, FLAT, 30, 10, 0, 0, 0, SOUND},
-    {"NK59", SOUTH, FLAT, 0, 0, 0, 0, 0, FOLDER},
-    {"NK58", SOUTH, FLAT, 0, 0, 0, 0, 0, SHUT},
-    {"NC01", SOUTH, FLAT, 0, 0, 0, 0, 0, NO_BYTES},
-    {"NC02", SOUTH, FLAT, 0, 0, 0, 0, 0, FIVE_RECORDS},
-    {"NC03", SOUTH, FLAT, 0, 10, 0, 0, 0, BYTE_MORE},
-    {"NC04", SOUTH, FLAT, 0, 0, 0, 0, 0, BYTE_LESS},
-    {"NK19", SOUTH, FLAT, 0, 0, 0, 0, 1, RECORD_TOO_MANY},
-    {"NK20", SOUTH, FLAT, 0, 0, 0, 0, 0, BYTE_TOO_MANY},
-    {"NK21", SOUTH, FLAT, 0, 0, 0, 0, 4096 - 60, MOST_RECORDS},
-    {"NK22", SOUTH, FLAT, 0, 0, 0, 0, 1, TOO_MANY_AND_BROKEN},
-    {"ND10", SOUTH, HILLS, 0, 0, 0, 0, 0, HIGHEST_LOW},
-    {"ND11", SOUTH, HILLS, 0, 0, 0, 0, 0, HIGHEST_HIGH},
-    {"ND12", SOUTH, HILLS, 0, 10, 0, 0, 0, ENTRY_LOW},
-    {"ND13", SOUTH, HILLS, 0, 10, 0, 0, 0, ENTRY_HIGH},
-    {"ND14", SOUTH, HILLS, 0, 0, 0, 0, 0, ENTRY_TWICE},
-    {"NE15", SOUTH, HILLS, 0, 0, 0, 0, 0, STRAY},
-    {"NK16", SOUTH, HILLS, 0, 0, 0, 0, 0, STAMPED},
+    {"NK17", SOUTH, FLAT, 0, 0, 0, 0, SOUND},
+    {"NK18", SOUTH, HILLS, 0, 40, 0, 0, SOUND},
+    {"NK09", SOUTH, BOWL, 0, 0, 0, 0, SOUND},
+    {"NK31", SOUTH, ROUGH, 15, 60, 2, 1, SOUND},
+    {"NK60", NOWHERE, FLAT, 0, 0, 0, 0, SOUND},
+    {"NA01", SOUTH_WEST, HILLS, 0, 20, 1, 0, SOUND},
+    {"NA60", SOUTH_WEST, BOWL, 8, 0, 0, 1, SOUND},
+    {"NU60", NORTH_EAST, BOWL, 0, 10, 0, 0, SOUND},
+    {"NU01", NORTH_EAST, FLAT, 10, 0, 0, 0, SOUND},
+    {"NK59", SOUTH, FLAT, 0, 0, 0, 0, FOLDER},
+    {"NK58", SOUTH, FLAT, 0, 0, 0, 0, SHUT},
+    {"NC01", SOUTH, FLAT, 0, 0, 0, 0, NO_BYTES},
+    {"NC02", SOUTH, FLAT, 0, 0, 0, 0, FIVE_RECORDS},
+    {"NC03", SOUTH, FLAT, 10, 0, 0, 0, BYTE_MORE},
+    {"NC04", SOUTH, FLAT, 0, 0, 0, 0, BYTE_LESS},
+    {"NK19", SOUTH, FLAT, 0, 0, 0, 1, RECORD_TOO_MANY},
+    {"NK20", SOUTH, FLAT, 0, 0, 0, 0, BYTE_TOO_MANY},
+    {"NK21", SOUTH, FLAT, 0, 0, 0, 4096 - 60, MOST_RECORDS},
+    {"NK22", SOUTH, FLAT, 0, 0, 0, 1, TOO_MANY_AND_BROKEN},
+    {"ND10", SOUTH, HILLS, 0, 0, 0, 0, HIGHEST_LOW},
+    {"ND11", SOUTH, HILLS, 0, 0, 0, 0, HIGHEST_HIGH},
+    {"ND12", SOUTH, HILLS, 10, 0, 0, 0, ENTRY_LOW},
+    {"ND13", SOUTH, HILLS, 10, 0, 0, 0, ENTRY_HIGH},
+    {"ND14", SOUTH, HILLS, 0, 0, 0, 0, ENTRY_TWICE},
+    {"NE15", SOUTH, HILLS, 0, 0, 0, 0, STRAY},
+    {"NK16", SOUTH, HILLS, 0, 0, 0, 0, STAMPED},
 };
 const uint32_t terrain_count = sizeof terrains / sizeof terrains[0];
 
@@ -183,33 +177,19 @@ static void draw_heights(int32_t *lines, uint32_t count, enum relief relief, int
     }
 }
 
-/* Draws the code of every patch: woods, suburbs or towns on some of them, which have an allowance, and on the others a code without one. */
-static void draw_patches(const struct terrain *terrain, uint32_t patches[NORTH_PATCHES][EAST_PATCHES])
-{
-    static const uint32_t standing[] = {1, 4, 7}, without[] = {0, 2, 3, 5, 6};
-    for (uint32_t k = 0; k < NORTH_PATCHES * EAST_PATCHES; k++) {
-        uint32_t nothing = terrain->relief == FLAT ? BARE : without[below(5)];
-        patches[k / EAST_PATCHES][k % EAST_PATCHES] = chance(terrain->percent_standing) ? standing[below(3)] : nothing;
-    }
-}
-
-/* Writes the words of all covered rectangles: the heights of the two unit lines, in most reliefs with a drawn part, and the code of the patch, or on
- * rough ground any code. Flat ground is 100 m high, and bare where nothing stands on it. */
-static void write_words(const struct terrain *terrain)
+/* Writes the words of all covered rectangles: the heights of the two unit lines, in most reliefs with a drawn part, and a drawn code. Flat ground is
+ * bare and 100 m high. */
+static void write_words(enum relief relief, enum where where)
 {
     static const uint32_t noise[] = {[FLAT] = 1, [HILLS] = 6, [BOWL] = 2, [ROUGH] = 60};
-    static uint32_t patches[NORTH_PATCHES][EAST_PATCHES];
-    enum relief relief = terrain->relief;
     int32_t east[EAST_LINES], north[NORTH_LINES];
     draw_heights(east, EAST_LINES, relief, 50);
     draw_heights(north, NORTH_LINES, relief, 50);
-    draw_patches(terrain, patches);
     for (uint32_t k = 0; k < covered_count; k++) {
-        uint32_t x = 15 * (covered[k] % 100 - first_column(terrain->where)), y = 31 * (covered[k] / 100 - first_row(terrain->where, base));
+        uint32_t x = 15 * (covered[k] % 100 - first_column(where)), y = 31 * (covered[k] / 100 - first_row(where, base));
         for (uint32_t word = 0; word < 512; word++) {
-            uint32_t at_x = x + word % 16, at_y = y + word / 16;
-            int32_t height = east[at_x] + north[at_y] + (int32_t)below(noise[relief]);
-            uint32_t code = relief == ROUGH ? below(8) : patches[at_y / PATCH][at_x / PATCH];
+            int32_t height = east[x + word % 16] + north[y + word / 16] + (int32_t)below(noise[relief]);
+            uint32_t code = relief == FLAT ? BARE : below(8);
             put(bytes + RECORD_BYTES * (record_of[k] - 1) + 2 * word, 8192 * code + (uint32_t)(height < 0 ? 0 : height));
         }
     }
@@ -289,7 +269,7 @@ static void make_terrain(const char *folder, const struct terrain *terrain)
     base = base_of(terrain->name);
     cover(terrain);
     write_index(terrain);
-    write_words(terrain);
+    write_words(terrain->relief, terrain->where);
     take_heights(terrain->missing);
     damage(terrain);
     if (cannot_be(terrain->fault))

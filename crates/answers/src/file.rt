@@ -49,11 +49,6 @@ pub(crate) fn put(file: &mut [u8; LENGTH], n: u32, number: u32) {
     }
 }
 
-// Writes word w of rectangle 50's record, with this surface code and elevation.
-pub(crate) fn put_word(file: &mut [u8; LENGTH], w: u32, code: u32, metres: u32) {
-    put(file, 512 * 7 + w % 512, 8192 * (code % 8) + metres % 8192);
-}
-
 // The file.
 pub(crate) fn built() -> [u8; LENGTH] {
     let mut file = [0u8; LENGTH];

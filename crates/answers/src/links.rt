@@ -69,13 +69,13 @@ fn ask(file: &[u8; LENGTH], question: Question) {
 
 // The ends of a path.
 #[derive(Drop)]
-pub(crate) struct Ends {
-    pub first: Point,
-    pub second: Point,
+struct Ends {
+    first: Point,
+    second: Point,
 }
 
 // Prints the ends of the path between two points of the file's zone, and gives them back.
-pub(crate) fn path(x0: u32, y0: u32, x1: u32, y1: u32) -> Ends {
+fn path(x0: u32, y0: u32, x1: u32, y1: u32) -> Ends {
     say::line(b"path", &[x0, y0, x1, y1]);
     Ends {
         first: at(x0, y0),
@@ -97,7 +97,7 @@ fn profile(file: &[u8; LENGTH], path: Ends) {
 }
 
 // Prints the masts a and b; refusal, place, and 1 where the path is clear with them.
-pub(crate) fn verdict(file: &[u8; LENGTH], path: Ends, a: u32, b: u32) {
+fn verdict(file: &[u8; LENGTH], path: Ends, a: u32, b: u32) {
     let answer = janlishuk::janlishuk_verdict(file, BASE, ZONE, path.first, path.second, a, b);
     say::line(
         b"  verdict",
@@ -106,7 +106,7 @@ pub(crate) fn verdict(file: &[u8; LENGTH], path: Ends, a: u32, b: u32) {
 }
 
 // Prints the limits la and lb; refusal, place, and the masts of the plan.
-pub(crate) fn plan(file: &[u8; LENGTH], path: Ends, la: u32, lb: u32) {
+fn plan(file: &[u8; LENGTH], path: Ends, la: u32, lb: u32) {
     let answer = janlishuk::janlishuk_plan(file, BASE, ZONE, path.first, path.second, la, lb);
     let masts = [
         la,

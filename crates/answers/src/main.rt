@@ -10,7 +10,6 @@ mod say;
 mod seams;
 mod spots;
 mod surveys;
-mod trees;
 mod votes;
 
 // Prints the answers to all questions.
@@ -24,5 +23,4 @@ fn main() {
     spots::spots(file);
     surveys::surveys(&file);
     links::paths(&file);
-    trees::trees(file);
 }

@@ -9,15 +9,20 @@ fn code(file: &[u8; LENGTH], fx: u32, fy: u32) -> u32 {
     janlishuk::janlishuk_read(file, BASE, ZONE, point).code
 }
 
+// Writes the word of the square with this number in its record, with a code and an elevation.
+fn corner(file: &mut [u8; LENGTH], w: u32, code: u32) {
+    file::put(file, 512 * 7 + w % 512, 8192 * (code % 8) + 200);
+}
+
 // Prints the codes of the corners SW, SE, NW and NE, and then the code at points: on the south_west
 // corner; on the edges, half way and past it; in the middle; nearer to the south_west corner, which the
 // other three outweigh in the first of the two; and nearer to the north-east one.
 fn vote(file: [u8; LENGTH], sw: u32, se: u32, nw: u32, ne: u32) {
     let mut other = file;
-    file::put_word(&mut other, 321, sw, 200);
-    file::put_word(&mut other, 322, se, 200);
-    file::put_word(&mut other, 337, nw, 200);
-    file::put_word(&mut other, 338, ne, 200);
+    corner(&mut other, 321, sw);
+    corner(&mut other, 322, se);
+    corner(&mut other, 337, nw);
+    corner(&mut other, 338, ne);
     let numbers = [
         sw,
         se,

@@ -70,11 +70,11 @@ pub(crate) fn set(file: &mut [u8; LENGTH], r: u32, w: u32, word: u32)
     put(file, WORDS * (r - 1) + w, word);
 }
 
-// Writes one word into every place of record r.
-pub(crate) fn fill(file: &mut [u8; LENGTH], r: u32, word: u32)
-    requires { ((7 ≤ r) × (r ≤ 8)) × (word ≤ 65535) }
+// Writes the elevation, in metres, into every word of record r.
+pub(crate) fn flatten(file: &mut [u8; LENGTH], r: u32, metres: u32)
+    requires { ((7 ≤ r) × (r ≤ 8)) × (metres ≤ 8190) }
 {
     for w in 1..=WORDS {
-        set(file, r, w, word);
+        set(file, r, w, metres);
     }
 }

@@ -1,5 +1,5 @@
-// Works the checked figures P1 to P12, and those of document 02, request f), through the library, on
-// files that it builds, and prints each as one line.
+// Works the checked figures P1 to P12 through the library, on files that it builds, and prints each
+// as one line.
 mod call;
 mod file;
 mod height;
@@ -11,7 +11,7 @@ mod samples;
 mod say;
 mod verdict;
 
-// Prints document 01's twelve figures, then document 02's.
+// Prints the twelve figures.
 fn main() {
     name::p1();
     place::p2();
@@ -25,7 +25,4 @@ fn main() {
     verdict::p10();
     plans::p11();
     plans::p12();
-    plans::f1();
-    plans::f2();
-    plans::f3();
 }

@@ -150,13 +150,13 @@ module _ (file after : List ℕ) (b z : ℕ) (p q : Point) (pr : ProfileAnswer) 
   pub profiled : (o : Profile) × (profile file b z p q ≡ given o)
   profiled = was_given (profile_order file b z p q) (rw profiles.0 at is)
 
-  pub shown : pr ≡ profile_answer (given profiled.0)
+  shown : pr ≡ profile_answer (given profiled.0)
   shown = profiles.0 ∙ ap profile_answer profiled.1
 
-  pub filled : Filled (λ i. reading file b z (sample (path_of p q) i)) (N (Q p q)) (N (Q p q) + 1) profiled.0
+  filled : Filled (λ i. reading file b z (sample (path_of p q) i)) (N (Q p q)) (N (Q p q) + 1) profiled.0
   filled = profile_at file b z p q profiled.0 profiled.1
 
-  pub steps : pr.n ≡ N (Q p q)
+  steps : pr.n ≡ N (Q p q)
   steps = rw shown filled.steps
 
   at_sample_lem : (i : ℕ) → sample_at p q pr.n i ≡ sample (path_of p q) i
@@ -184,7 +184,7 @@ module _ (file after : List ℕ) (b z : ℕ) (p q : Point) (pr : ProfileAnswer) 
     pub judged : v ≡ verdict_answer (given (clear link ma mb))
     judged = judges.0 ∙ ap verdict_answer (verdict_given file b z p q profiled.0 profiled.1 ha hb)
 
-    -- a verdict on a path whose profile is given follows document 01's test at every sample, with the allowance of document 02, request f)
+    -- a verdict on a path whose profile is given follows document 01's test at every sample
     pub verdict_follows : FollowsTest p q pr ma mb v
     verdict_follows =
         let number = number_is (clear link ma mb) in
@@ -198,7 +198,6 @@ module _ (file after : List ℕ) (b z : ℕ) (p q : Point) (pr : ProfileAnswer) 
     pub clears : v.clear ≡ 1 → clear link ma mb ≡ true
     clears e = (number_is (clear link ma mb)).0 (rw judged at e)
 
-    -- Rounding of heights may only ever make a path look worse: one that is said to be clear is clear by the same test without any rounding,
-    -- with the same allowance.
+    -- Rounding of heights may only ever make a path look worse: one that is said to be clear is clear by the same test without any rounding.
     pub rounding_only_worse : v.clear ≡ 1 → (i : ℕ) → 1 ≤ i → i < pr.n → ExactlyClear p q pr ma mb i
     rounding_only_worse e = rw (shown, filled.steps) (exactly_clear link ma mb (clears e))

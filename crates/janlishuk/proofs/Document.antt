@@ -32,8 +32,6 @@ use Rattle.survey.specs.Survey.{Lists, five_lists, most_points, point_count, poi
 use Rattle.survey.proofs.Laws.Lists.{most_points_is, count_is, point_is, lists_is, ListsFit, fits_exactly}
 use Rattle.path.specs.Path.{Q, N, path_of, sample, farthest, tallest}
 use Rattle.path.proofs.Laws.Path.{farthest_is}
-use Rattle.link.specs.Clear.{allowance}
-use Rattle.link.proofs.Laws.Allowance.{allowances, others_none}
 use Rattle.janlishuk.specs.Order.{Line, FirstOf, IsNamed, OnGround, placed, of_file, of_name, of_northing, of_point, of_ends, of_masts, of_row, of_samples, of_pairs, of_reading, of_spot, of_upload, of_taking, of_profile, of_verdict, of_plan, of_engine_row}
 
 -- "With x = E / 500, y = N / 500 truncated: Iy = (y - y_b) / 31, Ix = (x - 250) / 15, rectangle n = 100 Iy + Ix. In it wx = x - 250 - 15 Ix,
@@ -434,11 +432,6 @@ greatest_means f n best = ((λ g. (g.within, g.most, g.tie)), λ g. record { wit
 -- the numbers that have a name, in the documents' digits: Q of 100 km, 100 m of mast, and 256 points. Where the last file ends, y = 18,662, is in the table.
 pub named_numbers : (farthest ≡ 10000000000) × (tallest ≡ 100) × (most_points ≡ 256)
 named_numbers = (farthest_is, refl, most_points_is)
-
--- Document 02, request f): "an allowance by code: trees 15 m, suburban 9 m, urban 25 m, others 0."
-pub allowance_means : ((allowance 1 ≡ 15) × (allowance 4 ≡ 9) × (allowance 7 ≡ 25))
-    × ((code : ℕ) → (code ≡ 1 → ⊥) → (code ≡ 4 → ⊥) → (code ≡ 7 → ⊥) → allowance code ≡ 0)
-allowance_means = (allowances, others_none)
 
 -- five lent lists as one value, each under its own name
 pub lent_lists : (e n h c r : List ℕ) → five_lists e n h c r ≡ record { eastings = e; northings = n; heights = h; codes = c; refusals = r }

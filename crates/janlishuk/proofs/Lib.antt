@@ -6,7 +6,6 @@ pub mod Demand2
 pub mod Demand3
 pub mod Survey
 pub mod Seam
-pub mod Trees
 pub mod Given
 pub mod Document
 pub mod Bytes

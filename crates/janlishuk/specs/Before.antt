@@ -1,7 +1,6 @@
--- What the calls came to before requests of document 02. Before b) a point was read from its own rectangle's record alone: proofs/Seam.antt shows that what
--- was given then, and every refusal but 5, stays. Before f) the clear test had no allowance: proofs/Trees.antt shows that verdict and plan are what they were
--- where the samples between the ends carry none, and that whatever was refused is refused with the same number and place. Assumes nothing.
-use Rattle.std.specs.Prelude.{Bool, List, ℕ}
+-- What the calls came to before document 02, request b): a point was read from its own rectangle's record alone. proofs/Seam.antt shows that what was given
+-- then, and every refusal but 5, stays. Assumes nothing.
+use Rattle.std.specs.Prelude.{List, ℕ}
 use Rattle.ground.specs.Outcome.{Outcome, given, ◌and_then◌}
 use Rattle.ground.specs.Place.{located}
 use Rattle.ground.specs.declared.point.Point.{Point}
@@ -11,12 +10,9 @@ use Rattle.terrain.specs.declared.check.Terrain.{Terrain}
 use Rattle.terrain.specs.declared.record.Taken.{Taken}
 use Rattle.reading.specs.Reading.{read_taken}
 use Rattle.reading.specs.declared.point.Reading.{Reading}
-use Rattle.path.specs.Path.{path_on, sample, ask_masts}
+use Rattle.path.specs.Path.{path_on, sample}
 use Rattle.path.specs.declared.Asked.{Asked}
-use Rattle.profile.specs.Profile.{Link, profile_by, linked}
-use Rattle.masts.specs.Plan.{plan_of}
-use Rattle.masts.specs.declared.Masts.{Masts}
-use Rattle.link.specs.Before.{clear_before}
+use Rattle.profile.specs.Profile.{Link, profile_by}
 
 -- the record of a point before request b): 1 to 4, then its own rectangle's record or 5
 abbrev pub record_before : List ℕ → ℕ → ℕ → Point → Outcome Taken
@@ -37,11 +33,3 @@ linked_before file b z asked =
     and_then λ t.
     path_on t.ground asked
     and_then λ w. profile_by (λ i. point_before file t (sample w i)) w.n and_then λ p. given (record { path = w; profile = p })
-
--- the verdict before request f): by the clear test without the allowance
-abbrev pub verdict_before : List ℕ → ℕ → ℕ → Point → Point → ℕ → ℕ → Outcome Bool
-verdict_before file b z p q ma mb = linked file b z (ask_masts p q ma mb) and_then λ l. given (clear_before l ma mb)
-
--- the plan before request f): by the clear test without the allowance
-abbrev pub plan_before : List ℕ → ℕ → ℕ → Point → Point → ℕ → ℕ → Outcome Masts
-plan_before file b z p q la lb = linked file b z (ask_masts p q la lb) and_then λ l. plan_of (clear_before l) la lb

@@ -1,6 +1,6 @@
--- Demands 2 and 3 in the caller's own fields, what a record that is handed back is, and what the lists of an upload hold (document 02, request a). That the
--- promises keep them is shown in proofs/Demand2.antt, proofs/Demand3.antt, proofs/Given.antt and proofs/Survey.antt. Of demand 2 it is the last sentence, with
--- the allowance of document 02, request f); the first two are in the words of the reading's definitions, `Readable` and `IsMean`. Assumes nothing.
+-- Demand 2, last sentence, and demand 3, in the caller's own fields, what a record that is handed back is, and what the lists of an upload hold (document 02,
+-- request a). That the promises keep them is shown in proofs/Demand2.antt, proofs/Demand3.antt, proofs/Given.antt and proofs/Survey.antt. The first two
+-- sentences of demand 2 are in the words of the reading's definitions, `Readable` and `IsMean`. Assumes nothing.
 use Rattle.std.specs.Prelude.{◌≡◌, ◌⊎◌, ◌↔◌, List, ℕ, ◌+◌, ◌-◌, ◌*◌, ◌/◌, ◌≤◌, ◌<◌, length, get_or}
 use Rattle.std.specs.Borrow.{Bor}
 use Rattle.ground.specs.Outcome.{given}
@@ -15,7 +15,6 @@ use Rattle.survey.specs.Survey.{Lists, point_at}
 use Rattle.path.specs.Path.{Q, IsN}
 use Rattle.profile.specs.declared.ProfileAnswer.{ProfileAnswer}
 use Rattle.masts.specs.Clear.{rounded_up}
-use Rattle.link.specs.Clear.{allowance}
 use Rattle.link.specs.declared.clear.VerdictAnswer.{VerdictAnswer}
 use Rattle.janlishuk.specs.Order.{FirstOf, placed, of_point}
 use Rattle.janlishuk.specs.Promise.{Reads, Judges}
@@ -48,50 +47,23 @@ pub record FollowsSamples (file after : List ℕ) (b z : ℕ) (p q : Point) (pr 
   pub unused : (i : ℕ) → pr.n < i → (height_at pr i ≡ 0) × (code_at pr i ≡ 0)
   pub places : (length pr.heights ≡ 201) × (length pr.codes ≡ 201)
 
--- what is allowed for above the ground at sample i, in metres, by its code (document 02, request f)
-abbrev pub allowance_at : ProfileAnswer → ℕ → ℕ
-allowance_at pr i = allowance (code_at pr i)
-
--- The test at sample i, (N-i) A + i B >= N (T + G), where T is the sample's height rounded up plus `above` millimetres. A and B are the heights of the end
--- samples rounded down, with the masts and no allowance.
-abbrev pub ClearAt : Point → Point → ProfileAnswer → (ma mb above i : ℕ) → Type 0
-ClearAt p q pr ma mb above i =
-    let n : ℕ = pr.n in
-    n * (rounded_up (height_at pr i) 250 + above + rounded_up (Q p q * i * (n - i)) (17000 * (n * n)))
-    ≤ (n - i) * (height_at pr 0 / 250 + 1000 * ma) + i * (height_at pr n / 250 + 1000 * mb)
-
--- the test holds at each i from 1 to N-1, where `above` says how many millimetres stand at a sample
-abbrev pub ClearBetween : Point → Point → ProfileAnswer → (ma mb : ℕ) → (above : ℕ → ℕ) → Type 0
-ClearBetween p q pr ma mb above = (i : ℕ) → 1 ≤ i → i < pr.n → ClearAt p q pr ma mb (above i) i
-
 -- ".. and clear verdicts follow 01 sample by sample", of masts ma and mb on a path whose profile is given
 pub record FollowsTest (p q : Point) (pr : ProfileAnswer) (ma mb : ℕ) (v : VerdictAnswer) : Type 0 where
   pub given : (v.refusal ≡ 0) × (v.place ≡ 0)
   pub either : (v.clear ≡ 0) ⊎ (v.clear ≡ 1)
-  -- the path is clear exactly if the test holds at each i from 1 to N-1, with the sample's own allowance
-  pub clear : (v.clear ≡ 1) ↔ ClearBetween p q pr ma mb λ i. 1000 * allowance_at pr i
+  -- the path is clear exactly if for each i from 1 to N-1, (N-i) A + i B >= N (T + G)
+  pub clear :
+      let n : ℕ = pr.n in
+      (v.clear ≡ 1)
+      ↔ ((i : ℕ) → 1 ≤ i → i < n
+      → n * (rounded_up (height_at pr i) 250 + rounded_up (Q p q * i * (n - i)) (17000 * (n * n)))
+      ≤ (n - i) * (height_at pr 0 / 250 + 1000 * ma) + i * (height_at pr n / 250 + 1000 * mb))
 
--- no sample of a profile between the ends carries an allowance
-abbrev pub BareBetween : ProfileAnswer → Type 0
-BareBetween pr = (i : ℕ) → 1 ≤ i → i < pr.n → allowance_at pr i ≡ 0
-
--- two profiles of one path over the same ground: the same heights
-abbrev pub SameGround : ProfileAnswer → ProfileAnswer → Type 0
-SameGround pr pr' = (i : ℕ) → i ≤ pr.n → height_at pr i ≡ height_at pr' i
-
--- between the ends the second of two profiles carries no greater allowance than the first
-abbrev pub NoMoreBetween : ProfileAnswer → ProfileAnswer → Type 0
-NoMoreBetween pr pr' = (i : ℕ) → 1 ≤ i → i < pr.n → allowance_at pr' i ≤ allowance_at pr i
-
--- between the ends two profiles carry the same allowances
-abbrev pub SameBetween : ProfileAnswer → ProfileAnswer → Type 0
-SameBetween pr pr' = (i : ℕ) → 1 ≤ i → i < pr.n → allowance_at pr i ≡ allowance_at pr' i
-
--- the clear test at sample i without any rounding, heights and the allowance in 1/250,000 m and both sides multiplied by 17,000 N²
+-- the clear test at sample i without any rounding, heights in 1/250,000 m and both sides multiplied by 17,000 N²
 abbrev pub ExactlyClear : Point → Point → ProfileAnswer → (ma mb i : ℕ) → Type 0
 ExactlyClear p q pr ma mb i =
     let n : ℕ = pr.n in
-    17000 * (n * n) * (n * (height_at pr i + 250000 * allowance_at pr i)) + 250 * (n * (Q p q * i * (n - i)))
+    17000 * (n * n) * (n * height_at pr i) + 250 * (n * (Q p q * i * (n - i)))
     ≤ 17000 * (n * n) * ((n - i) * (height_at pr 0 + 250000 * ma) + i * (height_at pr n + 250000 * mb))
 
 -- demand 3: two masts within the limits that the verdict says are clear

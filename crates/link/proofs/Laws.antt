@@ -1,9 +1,7 @@
 -- The laws that belong to no one function. Those marked pub are for the functions' proofs and the crates above.
 --     Rounding     rounding only ever makes a path look worse
---     Allowance    an allowance only ever makes a path look worse; where there is none, the test is what it was
 --     Bounds       no number of the clear test is too large
 --     Demands      demand 2 of the verdict, of a path whose profile is given
 pub mod Rounding
-pub mod Allowance
 pub mod Bounds
 pub mod Demands

@@ -1,5 +1,5 @@
--- The clear test, in millimetres, and the verdict. Document 01, "A path", and document 02, request f). Assumes nothing.
-use Rattle.std.specs.Prelude.{ℕ, ◌+◌, ◌-◌, ◌*◌, ◌/◌, ◌≤◌, Bool, cond, List, eqb}
+-- The clear test, in millimetres, and the verdict. Document 01, "A path". Assumes nothing.
+use Rattle.std.specs.Prelude.{ℕ, ◌+◌, ◌-◌, ◌*◌, ◌/◌, ◌≤◌, Bool, cond, List}
 use Rattle.ground.specs.Outcome.{Outcome, given, ◌and_then◌, refusal_number, refusal_place, filled_by}
 use Rattle.ground.specs.declared.point.Point.{Point}
 use Rattle.reading.specs.declared.point.Reading.{Reading}
@@ -14,13 +14,9 @@ use Rattle.link.specs.declared.clear.VerdictAnswer.{VerdictAnswer}
 abbrev pub raised : Reading → ℕ → ℕ
 raised end mast = end.height / 250 + 1000 * mast
 
--- the allowance by code, in metres: trees (1) 15 m, suburban (4) 9 m, urban (7) 25 m, others 0
-unfoldable pub allowance : ℕ → ℕ
-allowance code = cond (eqb code 1) 15 (cond (eqb code 4) 9 (cond (eqb code 7) 25 0))
-
--- Between the ends, T is the sample's height rounded up plus the allowance. End samples get none: `raised` has no part of it.
+-- T is the sample's height rounded up
 unfoldable pub T : Reading → ℕ
-T sample = rounded_up sample.height 250 + 1000 * allowance sample.code
+T sample = rounded_up sample.height 250
 
 -- G is Q i (N-i) / (17,000 N²) rounded up (house effective radius 8,500 km)
 unfoldable pub G : Path → ℕ → ℕ
@@ -69,12 +65,11 @@ verdict_answer o =
       clear = filled_by 0 (o and_then λ c. given (cond c 1 0));
     }
 
--- The test at sample i without any rounding: heights and the allowance in 1/250,000 m, so that a metre is 250,000 and a millimetre 250, and both
--- sides multiplied by 17,000 N². That it holds wherever the test in millimetres does is shown in proofs/Laws/Rounding.antt.
+-- The test at sample i without any rounding: heights in 1/250,000 m, so that a metre is 250,000 and a millimetre 250, and both sides multiplied
+-- by 17,000 N². That it holds wherever the test in millimetres does is shown in proofs/Laws/Rounding.antt.
 abbrev pub ExactlyClearAt : Link → ℕ → ℕ → ℕ → Type 0
 ExactlyClearAt l a b i =
     let n : ℕ = l.path.n in
     let height : ℕ → ℕ = λ k. (sample_of l.profile k).height in
     let over : ℕ = 17000 * (n * n) in
-    let top : ℕ = height i + 250000 * allowance (sample_of l.profile i).code in
-    over * (n * top) + 250 * (n * (l.path.q * i * (n - i))) ≤ over * ((n - i) * (height 0 + 250000 * a) + i * (height n + 250000 * b))
+    over * (n * height i) + 250 * (n * (l.path.q * i * (n - i))) ≤ over * ((n - i) * (height 0 + 250000 * a) + i * (height n + 250000 * b))

@@ -1,11 +1,11 @@
 // The clear test of a path with its profile, in millimetres, and the verdict.
-ghost use Rattle.std.specs.Prelude.{◌≡◌, ◌+◌, ◌*◌, ◌≤◌, get_or};
+ghost use Rattle.std.specs.Prelude.{◌≡◌, ◌≤◌, get_or};
 ghost use Rattle.reading.specs.Corner.{most_height};
 ghost use Rattle.path.specs.Path.{tallest};
 ghost use Rattle.path.specs.Inside.{SoundPath};
 ghost use Rattle.profile.specs.Profile.{link_of};
 ghost use Rattle.profile.specs.Inside.{SoundLink};
-ghost use Rattle.link.specs.Clear.{raised, allowance, T, G, clear, sight, sight_answer, verdict, verdict_answer};
+ghost use Rattle.link.specs.Clear.{raised, T, G, need, clear, sight, sight_answer, verdict, verdict_answer};
 
 use ground::point::Point;
 use masts::sight::{IN_A_METRE, rounded_up};
@@ -59,25 +59,12 @@ pub fn raised(end: Reading, mast: u32) -> u32
     end.height / IN_A_MILLIMETRE + IN_A_METRE * mast
 }
 
-// The allowance for what stands on the ground, in metres, by the surface code: trees 15, suburban 9,
-// urban 25, others 0.
-fn allowance(code: u8) -> u32
-    ensures { result ≡ allowance code }
-{
-    match code {
-        1 => 15,
-        4 => 9,
-        7 => 25,
-        _ => 0,
-    }
-}
-
-// T, in millimetres: the height of a sample between the ends rounded up, and its allowance.
+// T, in millimetres: the sample's height rounded up.
 fn top(sample: Reading) -> u32
     requires { sample.height ≤ most_height }
     ensures { result ≡ T sample }
 {
-    rounded_up(sample.height, IN_A_MILLIMETRE) + IN_A_METRE * allowance(sample.code)
+    rounded_up(sample.height, IN_A_MILLIMETRE)
 }
 
 // G, in millimetres: Q i (N-i) / (17,000 N²) rounded up.
@@ -89,12 +76,12 @@ fn curve(path: Path, i: u32) -> u32
     ((path.q * i as u64 * (path.n - i) as u64 + (over - 1)) / over) as u32
 }
 
-// What a sample needs, the i-th of the path: N (T + G).
-pub fn need(path: Path, sample: Reading, i: u32) -> u32
-    requires { SoundPath path × ((sample.height ≤ most_height) × (i ≤ path.n)) }
-    ensures { result ≡ path.n * (T sample + G path i) }
+// What sample i needs: N (T + G).
+pub fn need(path: Path, heights: &[u32; ROOM], codes: &[u8; ROOM], i: u32) -> u32
+    requires { SoundLink (link_of path heights.now codes.now) × (i ≤ path.n) }
+    ensures { result ≡ need (link_of path heights.now codes.now) i }
 {
-    path.n * (top(sample) + curve(path, i))
+    path.n * (top(sample_of(heights, codes, i)) + curve(path, i))
 }
 
 // Whether the path is clear with masts a and b.
@@ -105,7 +92,7 @@ fn is_clear(path: Path, heights: &[u32; ROOM], codes: &[u8; ROOM], a: u32, b: u3
     let first = raised(sample_of(heights, codes, 0), a);
     let last = raised(sample_of(heights, codes, path.n), b);
     for i in 1..path.n {
-        if line(path.n, first, last, i) < need(path, sample_of(heights, codes, i), i) {
+        if line(path.n, first, last, i) < need(path, heights, codes, i) {
             return false;
         }
     }

@@ -31,7 +31,7 @@ fn find_needs(path: Path, heights: &[u32; ROOM], codes: &[u8; ROOM], needs: &mut
     ensures { Needed (need (link_of path heights.now codes.now)) path.n needs.new }
 {
     for i in 1..path.n {
-        needs[i as usize] = clear::need(path, clear::sample_of(heights, codes, i), i);
+        needs[i as usize] = clear::need(path, heights, codes, i);
     }
 }
 

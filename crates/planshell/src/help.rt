@@ -30,7 +30,6 @@ pub(crate) fn show() {
     line(b"                                         other, of at most 40 and 30 m");
     line(b"");
     line(b"A name is a capital letter, then up to 11 capitals, digits or hyphens.");
-    line(b"Between two sites trees count as 15 m, houses as 9 m, a town as 25 m.");
     line(b"");
     show_others();
 }

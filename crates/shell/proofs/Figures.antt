@@ -32,7 +32,7 @@ use Rattle.profile.specs.Profile.{Link, zeros, up_to, link_in, linked}
 use Rattle.masts.specs.Clear.{clear_by}
 use Rattle.masts.specs.Plan.{first_mast, least_sum, plan_of}
 use Rattle.masts.specs.declared.Masts.{Masts}
-use Rattle.link.specs.Clear.{allowance, T, G, need, clear, Sight, sight}
+use Rattle.link.specs.Clear.{T, G, need, clear, Sight, sight}
 use Rattle.plan.specs.Plan.{plan}
 use Rattle.lines.specs.Spell.{all, value_after}
 use Rattle.lines.specs.Line.{
@@ -131,7 +131,7 @@ seen_and_planned : (sight flat 40 17 A1 B1 0 0 ≡ given (record { n = 2; clear 
     × (plan flat 40 17 A1 B1 100 100 ≡ given (record { first = 0; second = 1 }))
 unfolding y_b rows named on_ground holds weights_of place_at place_of allowed nth record_bytes entry first_covered taken record_in corner corners_at
     any_lacks_height exact_height sum_for greatest vote read_corners read_taken point_in Q first_from N along sample path_on zeros up_to link_in linked flat
-    flat_index flat_words every allowance T G need clear_by clear sight first_mast least_sum plan_of
+    flat_index flat_words every T G need clear_by clear sight first_mast least_sum plan_of
 seen_and_planned = (
   ap (λ o. between 0 0 o and_then λ l. given (record { n = l.path.n; clear = clear l 0 0 })) flat_checked,
   ap (λ o. between 100 100 o and_then λ l. plan_of (clear l) 100 100) flat_checked,

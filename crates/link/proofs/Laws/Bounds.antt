@@ -1,16 +1,11 @@
--- No number of the clear test is too large: what the allowance, T, G and a sample's need are at most. All of them fit 32 bits; of what they are made of, only
--- Q, Q i and Q i (N-i) do not, and are worked out in 64. From the law of quotients rounded up. Assumes nothing.
+-- No number of the clear test is too large: what T, G and a sample's need are at most. From the law of quotients rounded up. Assumes nothing.
 use Prim.Native.Nat.{ℕ, ◌+◌, ◌-◌, ◌*◌, ◌/◌, ◌≤◌, ◌<◌}
 use native.Mathlib.Nat.{mul-le-mul, le_of_suc-le-suc, div-lt_iff_lt-mul}
 use native.Mathlib.Omega.{arith}
-use mathlib.Core.Bool.{Bool, true, false, cond}
-use lib.Dec.{eqb}
 use mir.Syntax.{w32}
 use mir.Val.{Fits}
-use Rattle.reading.specs.Corner.{most_height}
-use Rattle.reading.specs.declared.point.Reading.{Reading}
 use Rattle.profile.specs.Profile.{Link, sample_of}
-use Rattle.link.specs.Clear.{raised, allowance, T, G}
+use Rattle.link.specs.Clear.{raised, T, G, need}
 use Rattle.path.specs.Inside.{SoundPath}
 use Rattle.profile.specs.Inside.{SoundLink}
 use Rattle.masts.specs.Inside.{most_raised, most_need}
@@ -46,32 +41,18 @@ pub curve_fits : (w : Path) (i y : ℕ) → SoundPath w → i ≤ w.n → y < 17
     → Fits w32 ((w.q * i * (w.n - i) + y) / (17000 * (w.n * w.n)))
 curve_fits w i y s h l = record { fits = omega (arith, (curve_most w i s h).quotient y l) }
 
--- one of two numbers that are both at most k
-either_most : (t : Bool) (x y : ℕ) {k : ℕ} → x ≤ k → y ≤ k → cond t x y ≤ k
-either_most true x y a b = a
-either_most false x y a b = b
+-- T + G
+pub height_most : (l : Link) (i : ℕ) → SoundLink l → i ≤ l.path.n → T (sample_of l.profile i) + G l.path i ≤ 8778236
+unfolding T G
+height_most l i s h =
+    let top = (rounded_up_lem (sample_of l.profile i).height 250 8190000 (omega arith)).1 (s.heights i) in
+    let c = curve_most l.path i s.path h in
+    omega (arith, top, c.quotient (17000 * (l.path.n * l.path.n) - 1) (omega (arith, c.some)))
 
--- the allowance, in metres
-allowance_most : (code : ℕ) → allowance code ≤ 25
-unfolding allowance
-allowance_most code =
-    either_most (eqb code 1) 15 _ (omega arith)
-    (either_most (eqb code 4) 9 _ (omega arith) (either_most (eqb code 7) 25 0 (omega arith) (omega arith)))
-
--- T: 8190 m of ground and 25 m of allowance
-pub top_most : (sample : Reading) → sample.height ≤ most_height → T sample ≤ 8215000
-unfolding T
-top_most sample h = omega (arith, (rounded_up_lem sample.height 250 8190000 (omega arith)).1 h, allowance_most sample.code)
-
--- T + G, and N (T + G), what a sample needs: at most 200 times 8,803,236 mm, which is 1,760,647,200
-pub need_most : (w : Path) (sample : Reading) (i : ℕ) → SoundPath w → sample.height ≤ most_height → i ≤ w.n
-    → (T sample + G w i ≤ 8803236) × (w.n * (T sample + G w i) ≤ most_need)
-unfolding G
-need_most w sample i s h l =
-    let c = curve_most w i s l in
-    let height : T sample + G w i ≤ 8803236 =
-    omega (arith, top_most sample h, c.quotient (17000 * (w.n * w.n) - 1) (omega (arith, c.some))) in
-    (height, omega (arith, mul-le-mul {n₂ = 200} {m₂ = 8803236} s.most height))
+-- what a sample needs
+pub need_most : (l : Link) (i : ℕ) → SoundLink l → i ≤ l.path.n → need l i ≤ most_need
+unfolding need
+need_most l i s h = omega (arith, mul-le-mul {n₂ = 200} {m₂ = 8778236} s.path.most (height_most l i s h))
 
 -- A and B
 pub raised_most : (l : Link) (i mast : ℕ) → SoundLink l → mast ≤ 100 → raised (sample_of l.profile i) mast ≤ most_raised

@@ -12,19 +12,17 @@ use Rattle.ground.specs.declared.point.Point.{Point}
 use Rattle.path.specs.Path.{Q, N, path_of, ask_masts}
 use Rattle.profile.specs.Profile.{Profile, Link, profile}
 use Rattle.masts.specs.Clear.{rounded_up}
-use Rattle.link.specs.Clear.{allowance, T, G, need, clear, verdict}
+use Rattle.link.specs.Clear.{T, G, need, clear, verdict}
 use Rattle.masts.proofs.Laws.Clear.{clear_is, taller}
 use Rattle.profile.proofs.Laws.Link.{WithinAsked, link_given}
 
 module _ (l : Link) where
-  -- the path is clear with masts a and b exactly if for each i from 1 to N-1, (N-i) A + i B >= N (T + G): document 01's test, with the
-  -- allowance of document 02, request f), written out
+  -- the path is clear with masts a and b exactly if for each i from 1 to N-1, (N-i) A + i B >= N (T + G): document 01's test, written out
   pub clear_exactly : (a b : ℕ) → (clear l a b ≡ true)
       ↔ ((i : ℕ) → 1 ≤ i → i < l.path.n → (
       let n : ℕ = l.path.n in
       let height : ℕ → ℕ = λ k. get_or l.profile.heights k 0 in
-      let above : ℕ = 1000 * allowance (get_or l.profile.codes i 0) in
-      n * (rounded_up (height i) 250 + above + rounded_up (l.path.q * i * (n - i)) (17000 * (n * n)))
+      n * (rounded_up (height i) 250 + rounded_up (l.path.q * i * (n - i)) (17000 * (n * n)))
       ≤ (n - i) * (height 0 / 250 + 1000 * a) + i * (height n / 250 + 1000 * b)
       ))
   unfolding clear need T G

@@ -1,5 +1,5 @@
--- Rounding only ever makes a path look worse: where the test in millimetres holds, the line between the ends clears the ground, the allowance and the curve
--- without any rounding. From the laws of quotients rounded up and of the clear test, sample by sample. Assumes nothing.
+-- Rounding only ever makes a path look worse: where the test in millimetres holds, the line between the ends clears the ground and the curve without any
+-- rounding. From the laws of quotients rounded up and of the clear test, sample by sample. Assumes nothing.
 use mathlib.Core.Path.{◌≡◌}
 use mathlib.Core.Bool.{true}
 use Prim.Native.Nat.{ℕ, ◌+◌, ◌-◌, ◌*◌, ◌≤◌, ◌<◌}
@@ -30,9 +30,9 @@ pub exactly_clear_at : (l : Link) (a b i : ℕ) → 1 ≤ l.path.n
 unfolding need T G
 exactly_clear_at l a b i some h =
     let n : ℕ = l.path.n in
-    let ground = (rounded_up_lem (sample_of l.profile i).height 250 _ (omega arith)).0 (le_refl _) in
+    let top = (rounded_up_lem (sample_of l.profile i).height 250 _ (omega arith)).0 (le_refl _) in
     let bulge = (rounded_up_lem (l.path.q * i * (n - i)) (17000 * (n * n)) _ (omega (arith, mul-le-mul some some))).0 (le_refl _) in
-    unrounded n (n - i) i _ _ _ _ _ h (omega arith) (omega arith) (omega (arith, ground)) bulge
+    unrounded n (n - i) i _ _ _ _ _ h (omega arith) (omega arith) top bulge
 
 -- the exact test holds at each sample of a clear path
 pub exactly_clear : (l : Link) (a b : ℕ) → clear l a b ≡ true → (i : ℕ) → 1 ≤ i → i < l.path.n → ExactlyClearAt l a b i

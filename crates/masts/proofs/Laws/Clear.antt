@@ -4,7 +4,7 @@ use mathlib.Core.Path.{◌≡◌, ◌∙◌}
 use mathlib.Core.Bool.{true, false}
 use mathlib.Core.Logic.{◌↔◌}
 use Prim.Native.Nat.{ℕ, ◌+◌, ◌-◌, ◌≤◌, ◌<◌}
-use native.Mathlib.Nat.{mul-le-mul_left, le_trans}
+use native.Mathlib.Nat.{mul-le-mul_left}
 use native.Mathlib.Omega.{arith}
 use borrow.Author.Tests.{le-leb, lt-leb, leb-true}
 use Rattle.ground.specs.Every.{every}
@@ -62,7 +62,3 @@ taller needs n A B A' B' first second = taller_to needs n A B A' B' first second
 pub needs_agree : (f g : ℕ → ℕ) (n A B : ℕ) → ((i : ℕ) → 1 ≤ i → i < n → f i ≡ g i) → clear_by f n A B ≡ clear_by g n A B
 unfolding clear_by
 needs_agree f g n A B same = agree (clear_at f n A B) (clear_at g n A B) 1 n λ i l h. rw (same i l h)
-
--- needs that are greater at no sample between the ends leave a clear path clear
-pub needs_less : (f g : ℕ → ℕ) (n A B : ℕ) → ((i : ℕ) → 1 ≤ i → i < n → g i ≤ f i) → clear_by f n A B ≡ true → clear_by g n A B ≡ true
-needs_less f g n A B less t = (clear_is g n A B).1 λ i l h. le_trans (less i l h) ((clear_is f n A B).0 t i l h)

@@ -1,7 +1,7 @@
 -- Demand 3 allows one outcome, and the executable form of the plan is it. From the laws of the first number at which a test holds. Assumes nothing.
 use mathlib.Core.Path.{◌≡◌, refl, sym}
-use mathlib.Core.Logic.{◌⊎◌, inl, inr, ⊎_elim}
-use mathlib.Core.Bool.{Bool, true, ◌&&◌, and-eq-true_iff}
+use mathlib.Core.Logic.{◌⊎◌, inl, inr}
+use mathlib.Core.Bool.{Bool, ◌&&◌, and-eq-true_iff}
 use Prim.Native.Nat.{ℕ, ◌+◌, ◌-◌, ◌≤◌}
 use native.Mathlib.Decide.{dec_le}
 use native.Mathlib.Omega.{arith}
@@ -77,24 +77,3 @@ module _ (clears : ℕ → ℕ → Bool) (la lb : ℕ) where
       go : (o : Outcome Masts) → Demand3 clears la lb o → ((m : Masts) × ((o ≡ given m) × Best clears la lb m)) ⊎ ((o ≡ refused 9 0) × NoPair clears la lb)
       go (given m) d = inl (m, (refl, d))
       go (refused number place) d = inr ((λ i. refused (d.0.0 i) (d.0.1 i)), d.1)
-
--- Where a test is easier than another, so that each pair that the other clears is cleared by it:
-module _ (clears easier : ℕ → ℕ → Bool) (la lb : ℕ) (more : (a b : ℕ) → clears a b ≡ true → easier a b ≡ true) where
-  pair_more : {a b : ℕ} → Pair clears la lb a b → Pair easier la lb a b
-  pair_more {a} {b} x = record { first = x.first; second = x.second; clear = more a b x.clear }
-
-  -- no pair by the easier test is no pair by the other
-  pub easier_refused : {number place : ℕ} → plan_of easier la lb ≡ refused number place → plan_of clears la lb ≡ refused number place
-  easier_refused {number} {place} e =
-      let none = rw e at (plan_of_meets easier la lb) in
-      demand_once clears la lb (plan_of clears la lb) (refused number place) (plan_of_meets clears la lb) (none.0, λ a b x. none.1 a b (pair_more x))
-
-  -- where the other test has a plan, the easier one has a plan of no greater sum
-  pub easier_given : (m : Masts) → plan_of clears la lb ≡ given m
-      → (n : Masts) × ((plan_of easier la lb ≡ given n) × (n.first + n.second ≤ m.first + m.second))
-  easier_given m e =
-      let best = rw e at (plan_of_meets clears la lb) in
-      ⊎_elim
-      (λ x. (x.0, (x.1.0, x.1.1.least m.first m.second (pair_more best.pair))))
-      (λ x. absurd (x.1 m.first m.second (pair_more best.pair)))
-      (planned easier la lb)

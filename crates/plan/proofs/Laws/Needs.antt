@@ -46,14 +46,13 @@ module _ (l : Link) (list : List ℕ) (needs : Needed (need l) l.path.n list) wh
   -- what the search goes by is within its bounds
   pub sides : SoundLink l → (la lb : ℕ) → la ≤ 100 → lb ≤ 100
       → Sides l.path.n (raised (sample_of l.profile 0) 0 + 1000 * la) (raised (sample_of l.profile l.path.n) 0 + 1000 * lb) list
-  unfolding need
   sides s la lb ha hb =
       record {
         some = s.path.some;
         most = s.path.most;
         first = omega (arith, s.heights 0);
         last = omega (arith, s.heights l.path.n);
-        needs = λ i m u. rw (needs.at i m u) (need_most l.path (sample_of l.profile i) i s.path (s.heights i) (omega arith)).1;
+        needs = λ i m u. rw (needs.at i m u) (omega (arith, need_most l i s (omega arith)));
       }
 
   -- where A and B are the ends without masts, it says of each pair of masts what the clear test does

@@ -20,22 +20,10 @@ decreases-loop path heights codes needs₀ i₀ i-end rules i = path.n - i
 loop-holds : tie.Need-loop-init invariant-loop decreases-loop
 loop-holds c = (omega arith, none_needed c.requires.1)
 
-sample-of-requires : tie.Need-sample-of-requires invariant-loop decreases-loop
-sample-of-requires c κs =
-    let s = c.before.before.requires.0 in
-    (omega (arith, s.path.most), s.codes c.before.loop.i)
-
-need-requires : tie.Need-need-requires invariant-loop decreases-loop
-need-requires c κs =
-    let s = c.before.before.before.requires.0 in
-    (s.path, (rw c.sample-of.ensures (s.heights c.before.before.loop.i), omega arith))
-
 loop-again : tie.Need-loop-preserved invariant-loop decreases-loop
-unfolding need
 loop-again c =
-    let at = c.before.before.before in
-    let needed = rw c.before.sample-of.ensures at c.need.ensures in
-    (omega arith, one_needed at.loop.i c.need.result at.loop.invariant.1 (omega (arith, at.before.requires.0.path.most)) needed)
+    let at = c.before.before in
+    (omega arith, one_needed at.loop.i c.need.result at.loop.invariant.1 (omega (arith, at.before.requires.0.path.most)) c.need.ensures)
 
 returns : tie.Need-returns invariant-loop decreases-loop
 returns c =
@@ -45,5 +33,5 @@ returns c =
 pub find-needs-spec : {M : Type 1} → statement M
 find-needs-spec =
     tie.close
-    (tie.spec invariant-loop decreases-loop loop-holds sample-of-requires need-requires (search rules) (search rules) (search rules) (search rules) (search rules)
+    (tie.spec invariant-loop decreases-loop loop-holds (λ c κs. search rules) (search rules) (search rules) (search rules) (search rules) (search rules)
     loop-again returns)

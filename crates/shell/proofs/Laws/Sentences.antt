@@ -1,6 +1,6 @@
 -- Document 02, request e), sentence by sentence, of whatever state: which answer comes first, what a `use` loads, what a path and masts are asked of, and what
 -- each line leaves as it was. And the shell at its start holds the session's start. From the definitions of specs/Session.antt. Assumes nothing.
-use mathlib.Core.Path.{◌≡◌, refl, ◌∙◌, ap}
+use mathlib.Core.Path.{◌≡◌, refl}
 use mathlib.Core.Bool.{false}
 use mathlib.Core.List.{List}
 use Prim.Native.Nat.{ℕ, ◌*◌, ◌≤◌, ◌<◌}
@@ -10,10 +10,7 @@ use borrow.Author.Tests.{eq-eqb, lt-ltb, le-ltb}
 use Rattle.ground.specs.Outcome.{Outcome, given, refused, ◌and_then◌, refusal_number}
 use Rattle.ground.specs.declared.point.Point.{Point}
 use Rattle.terrain.specs.Check.{checked}
-use Rattle.ground.proofs.Laws.Outcome.{step}
-use Rattle.path.specs.Path.{Q, N, ask_masts}
-use Rattle.path.specs.declared.Path.{Path}
-use Rattle.profile.proofs.Laws.Link.{link_is}
+use Rattle.path.specs.Path.{ask_masts}
 use Rattle.profile.specs.Profile.{Link, linked}
 use Rattle.link.specs.Clear.{clear, Sight, sight, verdict}
 use Rattle.plan.specs.Plan.{plan}
@@ -86,14 +83,6 @@ sight_is_verdict bytes base zone p q a b = go (linked bytes base zone (ask_masts
     go : (o : Outcome Link) → (o and_then λ l. given (clear l a b)) ≡ (o and_then see and_then λ w. given w.clear)
     go (given l) = refl
     go (refused number place) = refl
-
--- the number beside that verdict is N of the path
-pub sight_steps : (bytes : List ℕ) (base zone : ℕ) (p q : Point) (a b : ℕ) (w : Sight) → sight bytes base zone p q a b ≡ given w → w.n ≡ N (Q p q)
-unfolding sight
-sight_steps bytes base zone p q a b w e =
-    let s = step (linked bytes base zone (ask_masts p q a b)) (λ l. given (record { n = l.path.n; clear = clear l a b })) w e in
-    let is : w.n ≡ s.value.path.n = cc s.then in
-    is ∙ ap (λ (x : Path). x.n) (link_is bytes base zone (ask_masts p q a b) s.value s.gave).path.is
 
 -- a file that can be read and has at most 60 records has the number of the file check; any other is refused with 1
 pub refused_as_checked : (bytes : List ℕ) (base zone : ℕ) → length bytes ≤ 61440 → refusal_of (holds bytes) base zone ≡ refusal_number (checked bytes base zone)

@@ -46,45 +46,25 @@ line-requires c κs =
     let B = raised_most (link start) start.args.path.n start.args.b start.requires.0 (omega arith) in
     omega (arith, first c.before.before.before.before, last c.before.before)
 
-sample-of-requires-3 : tie.Need-sample-of-requires-3 invariant-loop decreases-loop
-sample-of-requires-3 c κs =
-    let loop = c.before.before in
-    let start = loop.before.before.before.before.before in
-    (omega (arith, start.requires.0.path.most), start.requires.0.codes loop.loop.i)
-
-need-requires : tie.Need-need-requires invariant-loop decreases-loop
-need-requires c κs =
-    let loop = c.before.before.before in
-    let start = loop.before.before.before.before.before in
-    (start.requires.0.path, (rw c.sample-of3.ensures (start.requires.0.heights loop.loop.i), omega arith))
-
--- the need of the sample that is tried
-needed : (c : tie.After-need invariant-loop decreases-loop) → (
-    let loop = c.before.before.before.before in
-    c.need.result ≡ need (link loop.before.before.before.before.before) loop.loop.i
-    )
-unfolding need
-needed c = rw c.before.sample-of3.ensures at c.need.ensures
-
 returns : tie.Need-returns invariant-loop decreases-loop
 unfolding clear
 returns c =
-    let loop = c.before.before.before.before.before in
+    let loop = c.before.before.before.before in
     let at = loop.before in
     let start = at.before.before.before.before in
     let A = at.before.before.raised.result in
     let B = at.raised2.result in
-    let no = blocked (need (link start)) start.args.path.n A B loop.loop.i (omega arith) (omega arith) (omega (arith, needed c.before)) in
+    let no = blocked (need (link start)) start.args.path.n A B loop.loop.i (omega arith) (omega arith) (omega arith) in
     rw (first at.before.before, last at) at (sym no)
 
 loop-again : tie.Need-loop-preserved invariant-loop decreases-loop
 loop-again c =
-    let loop = c.before.before.before.before.before in
+    let loop = c.before.before.before.before in
     let at = loop.before in
     let start = at.before.before.before.before in
     let A = at.before.before.raised.result in
     let B = at.raised2.result in
-    clear_more (need (link start)) start.args.path.n A B loop.loop.i loop.loop.invariant (omega arith) (omega (arith, needed c.before))
+    clear_more (need (link start)) start.args.path.n A B loop.loop.i loop.loop.invariant (omega arith) (omega arith)
 
 returns-2 : tie.Need-returns-2 invariant-loop decreases-loop
 unfolding clear
@@ -95,5 +75,5 @@ returns-2 c =
 pub is-clear-spec : {M : Type 1} → statement M
 is-clear-spec =
     tie.close
-    (tie.spec invariant-loop decreases-loop sample-of-requires (search rules) sample-of-requires-2 (search rules) loop-holds line-requires sample-of-requires-3
-    need-requires returns (search rules) (search rules) loop-again returns-2)
+    (tie.spec invariant-loop decreases-loop sample-of-requires (search rules) sample-of-requires-2 (search rules) loop-holds line-requires (λ c κs. search rules)
+    returns (search rules) (search rules) loop-again returns-2)
