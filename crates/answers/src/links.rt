@@ -8,7 +8,7 @@ use janlishuk::Point;
 // A question about the path between two ends, each an easting and a northing: its profile, whether it
 // is clear with two masts, its plan within two limits, or the row of sample i of n, with the height
 // that is expected there in tenths of a metre.
-#[derive(Drop)]
+#[derive(Clone, Copy)]
 enum Question {
     Profile(u32, u32, u32, u32),
     Verdict(u32, u32, u32, u32, u32, u32),
@@ -68,7 +68,7 @@ fn ask(file: &[u8; LENGTH], question: Question) {
 }
 
 // The ends of a path.
-#[derive(Drop)]
+#[derive(Clone, Copy)]
 struct Ends {
     first: Point,
     second: Point,

@@ -1,6 +1,8 @@
 // Asks the library of a file that it builds, whole and damaged, and prints every answer: the record
 // as a part of the file, the point as an enum, and each exported call. It runs what the other programs
 // leave out, and for every must-fail edit it asks a question that the edited library answers otherwise.
+#![tactic(auto)]
+
 mod damage;
 mod file;
 mod links;

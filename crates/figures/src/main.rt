@@ -1,5 +1,7 @@
 // Works the checked figures P1 to P12 through the library, on files that it builds, and prints each
 // as one line.
+#![tactic(auto)]
+
 mod call;
 mod file;
 mod height;

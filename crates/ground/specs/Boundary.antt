@@ -21,7 +21,7 @@ unfoldable pub table1 : List ℕ
 table1 =
     0 ∷ 899 ∷ 1767 ∷ 2666 ∷ 3534 ∷ 4433 ∷ 5301 ∷ 6200 ∷ 7068 ∷ 7967 ∷ 8866 ∷ 9734 ∷ 10633 ∷ 11532 ∷ 12400 ∷ 13299 ∷ 14198 ∷ 15097 ∷ 15965 ∷ 16864 ∷ 17763 ∷ y_end ∷ []
 
--- the file of base b lies between y_b(b) and y_b(b+4)
+-- the file of base b lies between yB(b) and yB(b+4)
 abbrev pub span : ℕ → Span
 span b = record { south = y_b b; north = y_b (b + 4) }
 
@@ -45,7 +45,7 @@ named b z = is_base b && is_zone z
 abbrev pub between : Units → Units → Units → Bool
 between south north y = leb south.0 y.0 && ltb y.0 north.0
 
--- the file of base b spans y: y_b(b) <= y < y_b(b+4)
+-- the file of base b spans y: yB(b) <= y < yB(b+4)
 unfoldable pub spans : ℕ → Units → Bool
 spans b y = between (y_b b) (y_b (b + 4)) y
 

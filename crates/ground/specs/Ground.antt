@@ -9,7 +9,7 @@ use Rattle.ground.specs.declared.Ground.{Ground}
 use Rattle.ground.specs.declared.Opened.{Opened}
 use Rattle.ground.specs.declared.Opened.TheVariants.{On, Refused}
 
--- the ground of base b and zone z: from y_b(b) to before y_b(b+4)
+-- the ground of base b and zone z: from yB(b) to before yB(b+4)
 abbrev pub ground_of : ℕ → ℕ → Ground
 ground_of b z = record { zone = z; south = y_b b; north = y_b (b + 4) }
 
@@ -26,8 +26,8 @@ abbrev pub opened_means : Opened → Outcome Ground
 opened_means (On g) = given g
 opened_means (Refused number) = refused number 0
 
--- The ground holds eastings from 125,000 to 874,999 m, and northings whose y is from y_b(b) to before y_b(b+4). In metres that is document 01's
--- "from 500 y_b(b) to 500 y_b(b+4) - 1": `held_in_metres` of proofs/Laws/Ground.antt shows it.
+-- The ground holds eastings from 125,000 to 874,999 m, and northings whose y is from yB(b) to before yB(b+4). In metres that is document 01's
+-- "from 500 yB(b) to 500 yB(b+4) - 1": `held_in_metres` of proofs/Laws/Ground.antt shows it.
 unfoldable pub on_ground : Ground → Point → Bool
 on_ground g p =
     leb 125000 p.easting.0 && leb p.easting.0 874999 && between g.south g.north (in_units p.northing)

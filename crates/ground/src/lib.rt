@@ -1,4 +1,6 @@
 // The ground of a terrain file: its boundaries, its name, and where a point lies on it.
+#![tactic(auto)]
+
 ghost use Rattle.std.specs.Prelude.{◌≡◌, ◌≤◌};
 ghost use Rattle.ground.specs.Ground.{rows_of, opened, opened_means, holds};
 ghost use Rattle.ground.specs.Place.{located, located_means};
@@ -16,7 +18,7 @@ pub mod rectangle;
 pub mod table;
 
 // The ground of a file that is opened: its zone and its boundaries.
-#[derive(Drop)]
+#[derive(Clone, Copy)]
 pub struct Ground {
     pub zone: u32,
     pub south: Units,
@@ -24,14 +26,14 @@ pub struct Ground {
 }
 
 // What opening a file comes to: its ground, or the number of the refusal.
-#[derive(Drop)]
+#[derive(Clone, Copy)]
 pub enum Opened {
     On(Ground),
     Refused(u32),
 }
 
 // What locating a point comes to: its place, or the number of the refusal.
-#[derive(Drop)]
+#[derive(Clone, Copy)]
 pub enum Located {
     At(Place),
     Refused(u32),

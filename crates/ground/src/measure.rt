@@ -5,12 +5,12 @@ ghost use Rattle.ground.specs.Measure.{in_units, past_unit};
 
 // Whole metres.
 #[repr(C)]
-#[derive(Drop)]
+#[derive(Clone, Copy)]
 pub struct Metres(pub u32);
 
 // Units of 500 metres.
 #[repr(C)]
-#[derive(Drop)]
+#[derive(Clone, Copy)]
 pub struct Units(pub u32);
 
 impl Metres {

@@ -6,7 +6,7 @@ use crate::table::are_named;
 
 // The answer to a base and a zone: the file's name, or a refusal.
 #[repr(C)]
-#[derive(Drop)]
+#[derive(Clone, Copy)]
 pub struct NameAnswer {
     pub refusal: u32,
     pub place: u32,

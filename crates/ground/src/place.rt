@@ -7,7 +7,7 @@ use crate::measure::{Metres, Units};
 use crate::rectangle::Rectangle;
 
 // What each of the four corners weighs; together 250,000.
-#[derive(Drop)]
+#[derive(Clone, Copy)]
 pub struct Weights {
     pub sw: u32,
     pub se: u32,
@@ -16,7 +16,7 @@ pub struct Weights {
 }
 
 // The words at the four corners, counted from 1.
-#[derive(Drop)]
+#[derive(Clone, Copy)]
 pub struct Words {
     pub sw: usize,
     pub se: usize,
@@ -27,7 +27,7 @@ pub struct Words {
 // Where a point lies: a rectangle, the column wx and row wy of the word at the point's south_west
 // corner in it, the metres fx and fy past that corner, and the weights. The place of a refusal is
 // another thing, a sample's number.
-#[derive(Drop)]
+#[derive(Clone, Copy)]
 pub struct Place {
     pub rectangle: Rectangle,
     pub wx: Units,

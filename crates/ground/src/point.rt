@@ -2,7 +2,7 @@
 use crate::measure::Metres;
 
 #[repr(C)]
-#[derive(Drop)]
+#[derive(Clone, Copy)]
 pub struct Point {
     pub zone: u32,
     pub easting: Metres,

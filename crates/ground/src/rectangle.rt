@@ -5,7 +5,7 @@ ghost use Rattle.ground.specs.Place.{rectangle, rectangle_at, number};
 use crate::measure::Units;
 
 // A grid rectangle: row Iy and column Ix, both counted from 0.
-#[derive(Drop)]
+#[derive(Clone, Copy)]
 pub struct Rectangle {
     pub iy: u32,
     pub ix: u32,

@@ -4,13 +4,13 @@ ghost use Rattle.ground.specs.Boundary.{table1, span, is_base, is_zone, named, b
 
 use crate::measure::{Metres, Units};
 
-// y_b(b) for b = 0, 4, .. 84, in units.
+// yB(b) for b = 0, 4, .. 84, in units.
 const SOUTHERN: [u32; 22] = [
     0, 899, 1767, 2666, 3534, 4433, 5301, 6200, 7068, 7967, 8866, 9734, 10633, 11532, 12400, 13299,
     14198, 15097, 15965, 16864, 17763, 18662,
 ];
 
-// The northern end of the last file, y_b(84).
+// The northern end of the last file, yB(84).
 const END: u32 = SOUTHERN[21];
 
 // The most units that a file spans from south to north: 29 rows of 31.
@@ -18,7 +18,7 @@ const MOST_UNITS: u32 = 899;
 
 // The answer to a northing: its base, or a refusal.
 #[repr(C)]
-#[derive(Drop)]
+#[derive(Clone, Copy)]
 pub struct BaseAnswer {
     pub refusal: u32,
     pub place: u32,
@@ -26,7 +26,7 @@ pub struct BaseAnswer {
 }
 
 // The boundaries of one file.
-#[derive(Drop)]
+#[derive(Clone, Copy)]
 pub(crate) struct Span {
     pub south: Units,
     pub north: Units,
@@ -53,8 +53,9 @@ pub fn are_named(base: u32, zone: u32) -> bool
     is_base(base) & is_zone(zone)
 }
 
-// Entry k of the table, counted from 0: y_b(b) of base b = 4k. With an arm for each entry the compiled
+// Entry k of the table, counted from 0: yB(b) of base b = 4k. With an arm for each entry the compiled
 // table lies in memory that is only read; an index would have it copied to the stack at each call.
+#[tactic(auto, unfolding(crate::specs::Boundary::table1))]
 fn southern(k: usize) -> u32
     requires { k < 22 }
     ensures { result ≡ get_or table1 k 0 }
@@ -85,7 +86,7 @@ fn southern(k: usize) -> u32
     }
 }
 
-// The boundaries of file k, counted from 0 at the equator: y_b(b) and y_b(b+4) of base b = 4k.
+// The boundaries of file k, counted from 0 at the equator: yB(b) and yB(b+4) of base b = 4k.
 pub(crate) fn boundaries(k: usize) -> Span
     requires { k < 21 }
     ensures { result ≡ span (4 * k) }
@@ -96,7 +97,7 @@ pub(crate) fn boundaries(k: usize) -> Span
     }
 }
 
-// The base of y, the b with y_b(b) <= y < y_b(b+4), or refusal 4 from y = 18,662. Since 899 k lies in
+// The base of y, the b with yB(b) <= y < yB(b+4), or refusal 4 from y = 18,662. Since 899 k lies in
 // file k for every k, y lies in file y / 899 or in the next one.
 fn base_at(y: Units) -> BaseAnswer
     ensures { result ≡ base_answer (base_at y) }

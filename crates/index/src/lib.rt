@@ -1,4 +1,6 @@
 // The index of a terrain file: which record holds each rectangle, and the rules that it keeps.
+#![tactic(auto)]
+
 ghost use Rattle.std.specs.Prelude.{◌≡◌, ◌≤◌, true};
 ghost use Rattle.index.specs.Bytes.{nth, whole_records};
 ghost use Rattle.index.specs.Index.{highest_passes, index_passes};

@@ -10,7 +10,7 @@ use crate::bytes::{INDEX, MOST_RECORDS, is_record};
 pub(crate) const MARKS: usize = MOST_RECORDS + 1;
 
 // The numbers in four positions, one after the other.
-#[derive(Drop)]
+#[derive(Clone, Copy)]
 pub(crate) struct Four {
     pub first: usize,
     pub second: usize,

@@ -57,7 +57,7 @@ double m = of_int binary64 (pos m)
 abbrev in_metres : ℕ → Float
 in_metres height = div binary64 (double height) (double 250000)
 
--- the base is the b, of 0, 4, .. 80, with y_b(b) <= y < y_b(b+4)
+-- the base is the b, of 0, 4, .. 80, with yB(b) <= y < yB(b+4)
 pub base_given : (northing : ℕ) (r : BaseAnswer) → FindsBase northing r → r.refusal ≡ 0
     → (r.base ≡ 4 * (r.base / 4)) × (r.base ≤ 80) × ((y_b r.base).0 ≤ northing / 500) × (northing / 500 < (y_b (r.base + 4)).0)
 base_given northing r h e =

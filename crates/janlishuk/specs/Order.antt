@@ -45,7 +45,7 @@ pub record IsNamed (b z : ℕ) : Type 0 where
   pub first : 1 ≤ z
   pub last : z ≤ 60
 
--- The point is of the file's zone; and on its ground, which holds eastings from 125,000 to 874,999 m and northings from 500 y_b(b) to 500 y_b(b+4) - 1.
+-- The point is of the file's zone; and on its ground, which holds eastings from 125,000 to 874,999 m and northings from 500 yB(b) to 500 yB(b+4) - 1.
 pub record OnGround (b z : ℕ) (p : Point) : Type 0 where
   pub zone : p.zone ≡ z
   pub west : 125000 ≤ p.easting.0

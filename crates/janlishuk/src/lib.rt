@@ -1,5 +1,7 @@
 // The library that others link: the exported calls, and for Rattle callers the record as a part of
 // their own bytes and the point as an enum. No call asks anything of its caller.
+#![tactic(auto)]
+
 pub use between::{janlishuk_engine_row, janlishuk_plan, janlishuk_profile, janlishuk_verdict};
 pub use file::{janlishuk_base, janlishuk_check, janlishuk_name};
 pub use ground::measure::Metres;

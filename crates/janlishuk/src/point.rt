@@ -15,7 +15,7 @@ const WATER: u32 = 2;
 // The point for the engine: its kind, 1 land or 2 water, its code, and its height or level in metres;
 // or a refusal.
 #[repr(C)]
-#[derive(Drop)]
+#[derive(Clone, Copy)]
 pub struct EngineAnswer {
     pub refusal: u32,
     pub place: u32,

@@ -1,4 +1,6 @@
 // The lines of the plan shell: what a line says, or the column at which it goes wrong.
+#![tactic(auto)]
+
 ghost use Rattle.std.specs.Prelude.{◌≡◌, drop};
 ghost use Rattle.lines.specs.Line.{use_rest, site_rest, path_rest, masts_rest, command};
 ghost use Rattle.lines.specs.Inside.{no_command, said_from, ReadsLine};
@@ -10,7 +12,7 @@ pub mod text;
 mod word;
 
 // What a line says: a command, each name as its key; or the column, from 1, at which it is bad.
-#[derive(Drop)]
+#[derive(Clone, Copy)]
 pub enum Line {
     Use(u32, u32),
     Site(u64, u32, u32),
@@ -21,7 +23,7 @@ pub enum Line {
 
 // A command read from some bytes, and where the bytes after it begin; or the place of the first byte
 // that is not right.
-#[derive(Drop)]
+#[derive(Clone, Copy)]
 struct Said {
     right: bool,
     line: Line,
@@ -29,7 +31,7 @@ struct Said {
 }
 
 // What a line says, and the place of the byte after it; for a bad line, the place where it is bad.
-#[derive(Drop)]
+#[derive(Clone, Copy)]
 pub struct Read {
     pub line: Line,
     pub at: usize,

@@ -20,7 +20,7 @@ const MORE_CHARACTERS: u32 = 11;
 const MORE_DIGITS: u32 = 6;
 
 // A name, as its key, and the place after it; or the place of the first byte that is not right.
-#[derive(Drop)]
+#[derive(Clone, Copy)]
 pub struct Word {
     pub right: bool,
     pub key: u64,
@@ -28,7 +28,7 @@ pub struct Word {
 }
 
 // A number and the place after it; or the place of the first byte that is not right.
-#[derive(Drop)]
+#[derive(Clone, Copy)]
 pub struct Number {
     pub right: bool,
     pub value: u32,
@@ -36,7 +36,7 @@ pub struct Number {
 }
 
 // Two names, as their keys, and the place after them; or the place of the first byte that is not right.
-#[derive(Drop)]
+#[derive(Clone, Copy)]
 pub struct Names {
     pub right: bool,
     pub first: u64,

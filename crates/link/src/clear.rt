@@ -24,7 +24,7 @@ const RADII: u64 = 17000;
 
 // The verdict: clear 1, blocked 0; or a refusal.
 #[repr(C)]
-#[derive(Drop)]
+#[derive(Clone, Copy)]
 pub struct VerdictAnswer {
     pub refusal: u32,
     pub place: u32,
@@ -32,7 +32,7 @@ pub struct VerdictAnswer {
 }
 
 // N, and the verdict; or a refusal.
-#[derive(Drop)]
+#[derive(Clone, Copy)]
 pub struct SightAnswer {
     pub refusal: u32,
     pub place: u32,

@@ -5,6 +5,8 @@
 // mast needs only one test: with the tallest second mast that would still make the sum smaller. If
 // that pair is clear, one pass over the samples gives the least second mast. A first mast that is
 // itself as tall as the least sum so far ends the search.
+#![tactic(auto)]
+
 ghost use Rattle.std.specs.Prelude.{◌+◌, ◌*◌, ◌≤◌, get_or};
 ghost use Rattle.path.specs.Path.{tallest};
 ghost use Rattle.masts.specs.Clear.{clear_by};
@@ -17,14 +19,14 @@ use sight::IN_A_METRE;
 pub mod sight;
 
 // The two masts of a plan, in metres.
-#[derive(Drop)]
+#[derive(Clone, Copy)]
 pub struct Masts {
     pub first: u32,
     pub second: u32,
 }
 
 // What the search comes to: a pair of masts, or none.
-#[derive(Drop)]
+#[derive(Clone, Copy)]
 pub enum Planned {
     Pair(Masts),
     None,

@@ -6,7 +6,7 @@ use Rattle.ground.specs.declared.point.Point.{Point}
 use Rattle.path.specs.Path.{far}
 use Rattle.path.specs.declared.Path.{Path}
 
--- The bound of the numbers that a line runs between: 500 y_b(84), the northing at which the last file ends. The millimetres of an end with its mast are
+-- The bound of the numbers that a line runs between: 500 yB(84), the northing at which the last file ends. The millimetres of an end with its mast are
 -- below it too, and 200 times it fits 32 bits.
 abbrev pub line_end : ℕ
 line_end = 500 * y_end

@@ -1,4 +1,6 @@
 // The path of a link: a straight line on the grid between two points, and where its samples lie.
+#![tactic(auto)]
+
 ghost use Rattle.std.specs.Prelude.{◌≡◌, ◌≤◌};
 ghost use Rattle.ground.specs.Boundary.{y_end};
 ghost use Rattle.path.specs.Path.{sample, over_asked, path_on, found_means};
@@ -21,7 +23,7 @@ const TALLEST: u32 = 100;
 pub const ROOM: usize = 201;
 
 // A path: its ends, Q and N.
-#[derive(Drop)]
+#[derive(Clone, Copy)]
 pub struct Path {
     pub first: Point,
     pub second: Point,
@@ -31,7 +33,7 @@ pub struct Path {
 
 // What a call asks about: the ends of a path, two masts or mast limits, and a sample. What a call has
 // no place for is 0.
-#[derive(Drop)]
+#[derive(Clone, Copy)]
 pub struct Asked {
     pub first: Point,
     pub second: Point,
@@ -41,7 +43,7 @@ pub struct Asked {
 }
 
 // What the ends of a path come to: the path, or the number of the refusal.
-#[derive(Drop)]
+#[derive(Clone, Copy)]
 pub enum Found {
     Path(Path),
     Refused(u32),

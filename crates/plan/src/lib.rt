@@ -1,4 +1,6 @@
 // The mast plan of a link: the lowest two masts that see each other.
+#![tactic(auto)]
+
 ghost use Rattle.std.specs.Prelude.{◌≡◌, ◌≤◌, length};
 ghost use Rattle.path.specs.Path.{ask_masts, tallest};
 ghost use Rattle.profile.specs.Profile.{link_of, linked};
@@ -17,7 +19,7 @@ use profile::samples::Sampled;
 
 // The plan: its two masts; or a refusal.
 #[repr(C)]
-#[derive(Drop)]
+#[derive(Clone, Copy)]
 pub struct PlanAnswer {
     pub refusal: u32,
     pub place: u32,

@@ -6,7 +6,7 @@ pub const LONGEST: usize = 4080;
 
 // What was read of a file: whether it could be opened and read, and how many bytes it has. A file that fills
 // the room that it was read into may have more.
-#[derive(Drop)]
+#[derive(Clone, Copy)]
 pub struct Loaded {
     pub readable: bool,
     pub length: usize,

@@ -1,5 +1,7 @@
 // The plan shell as a program: lines from standard input, answers to standard output, terrain files from
 // the folder that its first argument names, or from the one that it is run in.
+#![tactic(auto)]
+
 mod folder;
 mod help;
 mod session;

@@ -157,7 +157,7 @@ fn use_file(
 
 // What a read came to: the end of what was kept of a line and the piece after it, or 0 where there is no
 // piece; and whether the input has ended, which is not so where the read failed.
-#[derive(Drop)]
+#[derive(Clone, Copy)]
 struct Piece {
     end: usize,
     ended: bool,

@@ -1,4 +1,6 @@
 // The profile of a path: what is read at each of its samples, and its rows for the prediction engine.
+#![tactic(auto)]
+
 ghost use Rattle.std.specs.Prelude.{◌≡◌};
 ghost use Rattle.profile.specs.Profile.{profile, profile_answer};
 

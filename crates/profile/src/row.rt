@@ -9,7 +9,7 @@ use path::{Asked, ROOM};
 
 // A sample for the engine: its height in metres, and its share of the way.
 #[repr(C)]
-#[derive(Drop)]
+#[derive(Clone, Copy)]
 pub struct Row {
     pub height: f64,
     pub share: f64,
@@ -17,7 +17,7 @@ pub struct Row {
 
 // The row; or a refusal, and both doubles 0.
 #[repr(C)]
-#[derive(Drop)]
+#[derive(Clone, Copy)]
 pub struct RowAnswer {
     pub refusal: u32,
     pub place: u32,

@@ -8,7 +8,7 @@ use path::{Asked, Found, Path, ROOM};
 use terrain::check::{Checked, Terrain};
 
 // What reading a path's samples comes to: the path, or a refusal's number and place.
-#[derive(Drop)]
+#[derive(Clone, Copy)]
 pub enum Sampled {
     Whole(Path),
     Refused(u32, u32),

@@ -20,11 +20,11 @@ const SECOND_PAST: u32 = NO_HEIGHT + 1;
 const FIRST_PAST: u32 = PER_FIRST * SECOND_PAST;
 
 // The words at the two ends of an edge, as one number.
-#[derive(Drop)]
+#[derive(Clone, Copy)]
 pub struct Edge(pub u32);
 
 // The elevations at the two ends of an edge, as one number.
-#[derive(Drop)]
+#[derive(Clone, Copy)]
 pub struct Elevations(pub u32);
 
 // A byte as a number of 32 bits.

@@ -7,7 +7,7 @@ use ground::point::Point;
 
 // Land with its height in metres and its code, water with its level in metres and its code, or the
 // number of the refusal.
-#[derive(Drop)]
+#[derive(Clone, Copy)]
 pub enum EnginePoint {
     Land(f64, u32),
     Water(f64, u32),

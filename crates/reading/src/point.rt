@@ -17,7 +17,7 @@ use terrain::record;
 use terrain::record::{Sought, Taken};
 
 // What is read at a point: the exact height in 1/250,000 m, and the surface code.
-#[derive(Drop)]
+#[derive(Clone, Copy)]
 pub struct Reading {
     pub height: u32,
     pub code: u8,
@@ -25,7 +25,7 @@ pub struct Reading {
 
 // The answer to a point: its exact height and surface code, or a refusal.
 #[repr(C)]
-#[derive(Drop)]
+#[derive(Clone, Copy)]
 pub struct ReadAnswer {
     pub refusal: u32,
     pub place: u32,

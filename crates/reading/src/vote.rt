@@ -12,7 +12,7 @@ use ground::place::Place;
 const HALF_WAY: u32 = Metres::IN_A_UNIT / 2;
 
 // A surface code, and what some of the corners that have it weigh together.
-#[derive(Drop)]
+#[derive(Clone, Copy)]
 pub struct Sum {
     pub code: u32,
     pub weight: u32,

@@ -32,7 +32,7 @@ const NO_HEIGHT: u32 = BARE + 8191;
 
 // What is found under the name of a file: whether it can be read, how many bytes it has, and how many
 // rectangles it covers.
-#[derive(Drop)]
+#[derive(Clone, Copy)]
 pub(crate) struct Found {
     pub(crate) readable: bool,
     pub(crate) length: usize,

@@ -1,6 +1,8 @@
 // Answers the lines of its standard input through the libraries of the plan shell, over terrain files that
 // it builds: first as one piece, then in pieces of 1 to 7 bytes with little room for answers. It prints both
 // lots of answers, which are the same, so that a wrong program of those libraries is seen by what it answers.
+#![tactic(auto)]
+
 mod file;
 mod session;
 

@@ -12,7 +12,7 @@ pub const LONGEST: usize = 17;
 // What a line is answered: `use` with base and zone; `site` with the number of sites held; `path` with N
 // and whether it is clear; `masts` with two heights; `taken`; `full`; `unknown`; `refused` with a
 // number; `bad` with a column.
-#[derive(Drop)]
+#[derive(Clone, Copy)]
 pub enum Answer {
     Used(u32, u32),
     Held(usize),

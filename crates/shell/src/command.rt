@@ -152,7 +152,7 @@ fn point(zone: u32, eastings: &[u32; MOST_SITES], northings: &[u32; MOST_SITES],
 }
 
 // What two names come to: a site that is missing, no file in use, or the points of the two sites.
-#[derive(Drop)]
+#[derive(Clone, Copy)]
 enum Ends {
     Unknown,
     NoFile,

@@ -17,7 +17,7 @@ pub const MOST_KEPT: usize = 48;
 
 // Why the lines of an input are not answered further: a line asks for the file of a base and a zone; the line
 // at the place is not ended yet; or there is no room for its answer.
-#[derive(Drop)]
+#[derive(Clone, Copy)]
 pub enum Next {
     Use(u32, u32),
     More,

@@ -1,5 +1,7 @@
 // The reading of one spot, which vouches for one entry of the index, the first of the spot's that is not 0,
 // and not for the file.
+#![tactic(auto)]
+
 ghost use Rattle.std.specs.Prelude.{◌≡◌};
 ghost use Rattle.reading.specs.Reading.{read_answer};
 ghost use Rattle.spot.specs.Spot.{spot};

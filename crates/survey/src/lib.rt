@@ -1,4 +1,6 @@
 // The survey: up to 256 points of a file, read in one call into three lists that the caller lends.
+#![tactic(auto)]
+
 ghost use Rattle.std.specs.Prelude.{◌≡◌, false, set};
 ghost use Rattle.terrain.specs.Check.{Gave, checked_means};
 ghost use Rattle.survey.specs.Survey.{five_lists, point_of, unfit_lengths, unfit, admitted, Uploaded};
@@ -14,7 +16,7 @@ pub const MOST_POINTS: usize = 256;
 
 // The answer to a survey, whose readings are in the lent lists; or a refusal.
 #[repr(C)]
-#[derive(Drop)]
+#[derive(Clone, Copy)]
 pub struct UploadAnswer {
     pub refusal: u32,
     pub place: u32,

@@ -9,7 +9,7 @@ use index::bytes;
 
 // What is known of a file that was opened: how many records there are from 7 to M, past the index, and
 // its ground. The count stands for M, since one comparison with it tells a number from 7 to M.
-#[derive(Drop)]
+#[derive(Clone, Copy)]
 pub struct Terrain {
     pub past: u32,
     pub ground: Ground,
@@ -17,7 +17,7 @@ pub struct Terrain {
 
 // What opening or checking a file comes to: what is known of it, where it passed the tests that were made,
 // or the number of the refusal.
-#[derive(Drop)]
+#[derive(Clone, Copy)]
 pub enum Checked {
     Passed(Terrain),
     Refused(u32),
@@ -25,7 +25,7 @@ pub enum Checked {
 
 // The check's answer: M, or a refusal.
 #[repr(C)]
-#[derive(Drop)]
+#[derive(Clone, Copy)]
 pub struct CheckAnswer {
     pub refusal: u32,
     pub place: u32,

@@ -17,14 +17,14 @@ use index::bytes;
 
 // The record that the index names for a point: its number, which is the entry of a rectangle, and where
 // in that rectangle the point lies.
-#[derive(Drop)]
+#[derive(Clone, Copy)]
 pub struct Taken {
     pub entry: usize,
     pub place: Place,
 }
 
 // What looking for the record of a point comes to: the record, or the number of the refusal.
-#[derive(Drop)]
+#[derive(Clone, Copy)]
 pub enum Sought {
     From(Taken),
     Refused(u32),

@@ -134,7 +134,7 @@ base_own y h l =
     let k = y.0 / 899 in
     found 21 0 k (4 * k) y (omega arith) (omega arith) (omega (arith, above k (omega arith))) l
 
--- Document 01's own words: the base of y is the b with y_b(b) <= y < y_b(b+4), and only from 18,662 on is there none.
+-- Document 01's own words: the base of y is the b with yB(b) <= y < yB(b+4), and only from 18,662 on is there none.
 pub base_is : (b : ℕ) (y : Units) → is_base b ≡ true → (y_b b).0 ≤ y.0 → y.0 < (y_b (b + 4)).0 → base_at y ≡ given b
 unfolding base_at
 base_is b y h l u = found 21 0 (b / 4) b y (base_at_lem b h).0 (omega (arith, base_at_lem b h)) l u

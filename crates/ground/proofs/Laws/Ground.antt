@@ -105,7 +105,7 @@ holding g p t =
       lt-ltb _ _ t.north,
     )
 
--- document 01's own words: of the zone, eastings from 125,000 to 874,999 m, northings from 500 y_b(b) to 500 y_b(b+4) - 1 m
+-- document 01's own words: of the zone, eastings from 125,000 to 874,999 m, northings from 500 yB(b) to 500 yB(b+4) - 1 m
 pub held_in_metres : (g : Ground) (p : Point) → (holds g p ≡ true)
     ↔ ((p.zone ≡ g.zone) × (125000 ≤ p.easting.0) × (p.easting.0 ≤ 874999) × (500 * g.south.0 ≤ p.northing.0) × (p.northing.0 < 500 * g.north.0))
 held_in_metres g p = (
