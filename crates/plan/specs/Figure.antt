@@ -17,7 +17,7 @@ answer_of clears =
     given (r.refusal ∷ r.place ∷ r.first ∷ r.second ∷ [])
 
 -- the answer of the plan of a path over bare ground (code 2), of `ground i` metres at sample i; a metre is 250,000 of 1/250,000 m
-abbrev planned : Path → (ℕ → ℕ) → Outcome (List ℕ)
+abbrev planned : Path → (ground : ℕ → ℕ) → Outcome (List ℕ)
 planned w ground =
     profile_by (λ i. given (record { height = 250000 * ground i; code = 2 })) w.n and_then λ p. answer_of (clear (record { path = w; profile = p }))
 

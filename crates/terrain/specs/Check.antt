@@ -12,7 +12,7 @@ use Rattle.terrain.specs.declared.check.Checked.{Checked}
 use Rattle.terrain.specs.declared.check.Checked.TheVariants.{Passed, Refused}
 
 -- what is known of a file on this ground with this M: `past`, the number of records from 7 to M, stands for M
-abbrev pub terrain_of : Ground → (M : ℕ) → Terrain
+abbrev pub terrain_of : (ground : Ground) → (M : ℕ) → Terrain
 terrain_of g M = record { ground = g; past = M - 6 }
 
 -- M of a file of which this is known
