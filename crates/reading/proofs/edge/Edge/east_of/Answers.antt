@@ -2,12 +2,10 @@
 use mathlib.Core.Path.{◌≡◌}
 use Prim.Native.Nat.{ℕ, ◌+◌, ◌-◌, ◌*◌, ◌/◌, ◌%◌, ◌≤◌}
 use native.Mathlib.Omega.{arith}
-use borrow.Author.Rules.{rules}
 use Rattle.index.specs.Bytes.{nth}
 use Rattle.reading.specs.Inside.{turned}
 use Rattle.reading.proofs.Laws.Edge.{told_apart}
-use Rattle.reading.proofs.edge.Edge.east_of.Statement.{statement}
-use Rattle.reading.proofs.edge.Edge.east_of.Tie as tie
+use Rattle.reading.proofs.edge.Edge.east_of.Goals as goal
 
 -- four bytes turned round
 round : (a b c d : ℕ) → a ≤ 255 → b ≤ 255 → c ≤ 255 → d ≤ 255
@@ -22,17 +20,13 @@ round a b c d ha hb hc hd =
     let fourth : n / 16777216 ≡ d = omega arith in
     rw (first, low, second, high, third, fourth) (omega arith)
 
-returns : tie.Need-returns
+pub returns : goal.returns
 unfolding nth
 returns c =
-    let four = c.before.four-from.ensures in
-    let start = c.before.before.before in
-    let w = start.args.w in
-    let next : 2 * (w + 1 - 1) ≡ 2 * (w - 1) + 2 = omega (arith, start.requires.0) in
+    let four = c.four_from.ensures in
+    let w = c.args.w in
+    let next : 2 * (w + 1 - 1) ≡ 2 * (w - 1) + 2 = omega (arith, c.requires.0) in
     let last : 2 * (w - 1) + 2 + 1 ≡ 2 * (w - 1) + 3 = omega arith in
     let turn = round _ _ _ _ four.first four.second four.third four.fourth in
     let apart = told_apart _ _ _ (rw (four.is, turn) at c.turned.ensures) (omega (arith, four.third, four.fourth)) in
     record { first = apart.0; second = rw (next, last) apart.1 }
-
-pub east-of-spec : {M : Type 1} → statement M
-east-of-spec = tie.close (tie.spec (search rules) (search rules) (search rules) (search rules) returns)

@@ -2,12 +2,10 @@
 use mathlib.Core.Path.{◌≡◌}
 use Prim.Native.Nat.{ℕ, ◌+◌, ◌/◌, ◌%◌, ◌≤◌}
 use native.Mathlib.Omega.{arith}
-use borrow.Author.Rules.{rules}
 use borrow.Author.Tests.{eqb-true, eq-eqb}
 use lib.Dec.{eqb}
 use Rattle.ground.proofs.Laws.Test.{same_test}
-use Rattle.reading.proofs.edge.Elevations.lack_height.Statement.{statement}
-use Rattle.reading.proofs.edge.Elevations.lack_height.Tie as tie
+use Rattle.reading.proofs.edge.Elevations.lack_height.Goals as goal
 
 -- two equations that hold together are the same test
 same-equal : (a b c d : ℕ) → (a ≡ b → c ≡ d) → (c ≡ d → a ≡ b) → eqb a b ≡ eqb c d
@@ -21,11 +19,8 @@ bits n first second = (
   same-equal ((n + 65536 + 1) / 8192 % 2) 1 (n % 65536) 8191 (λ e. omega arith) (λ e. omega arith),
 )
 
-returns : tie.Need-returns
+pub returns : goal.returns
 returns c =
-    let h = c.before.requires in
-    let b = bits c.before.args.self.0 h.first h.second in
+    let h = c.requires in
+    let b = bits c.args.self.0 h.first h.second in
     rw (b.0, b.1)
-
-pub lack-height-spec : {M : Type 1} → statement M
-lack-height-spec = tie.close (tie.spec (search rules) (search rules) returns)
