@@ -1,6 +1,6 @@
 -- Bad lines. Document 02, request e): any line that is not legal, however long, answers `bad` and the column, counted from 1, of the first byte with which no
 -- legal line can begin so (one past the end if it stopped short). Assumes nothing.
-use Rattle.std.specs.Prelude.{◌≡◌, List, ◌++◌, ℕ, ◌≤◌, length, take}
+use Rattle.std.specs.Prelude.{List, ◌++◌, ℕ, ◌≤◌, length, take}
 use Rattle.lines.specs.Spell.{Legal}
 
 -- some legal line begins with these bytes

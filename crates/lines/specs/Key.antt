@@ -1,7 +1,7 @@
 -- The number that stands for a name in the program, below 2^64: the characters of a name are the digits 1 to 37 of a number in base 38. That no two names have
 -- one key is shown in proofs/Laws/Key.antt. Assumes nothing.
 use Rattle.std.specs.Prelude.{cond, List, [], ◌∷◌, ℕ, ◌+◌, ◌-◌, ◌*◌, eqb}
-use Rattle.lines.specs.Spell.{Command, «use», site, path, masts, capital, digit}
+use Rattle.lines.specs.Spell.{«use», site, path, masts, capital, digit}
 use Rattle.lines.specs.Line.{Reading, legal, bad}
 use Rattle.lines.specs.declared.Line.{Line}
 use Rattle.lines.specs.declared.Line.TheVariants as line

@@ -7,7 +7,7 @@ use Rattle.ground.specs.declared.point.Point.{Point}
 use Rattle.path.specs.Path.{path_of, sample}
 use Rattle.path.specs.declared.Path.{Path}
 
--- zone 17: the path that leads dE metres east and dN metres north from the south_west corner of rectangle 50
+-- zone 17: the path that leads dE metres east and dN metres north from the south-west corner of rectangle 50
 abbrev pub from_corner : ℕ → ℕ → Path
 from_corner dE dN =
     let at : ℕ → ℕ → Point = λ E N. record { zone = 17; easting = metres E; northing = metres N } in

@@ -1,17 +1,15 @@
 -- The parts of a line, and the command that it begins with, are read as they are spelled. From the laws of readers, for the definitions of specs/Line.antt and
 -- specs/Spell.antt. Assumes nothing.
-use mathlib.Core.Path.{◌≡◌, refl, sym, ◌∙◌, ap}
-use mathlib.Core.Logic.{◌⊎◌, inl, inr, ⊎_elim}
-use mathlib.Core.Bool.{Bool, true, false, cond, ◌&&◌, ◌||◌, and-eq-true_iff, true≢false, false≢true}
-use mathlib.Core.List.{List, [], ◌∷◌, ◌++◌, append_assoc, append-nil}
-use Prim.Native.Nat.{ℕ, zero, suc, ◌+◌, ◌-◌, ◌*◌, ◌/◌, ◌%◌, ◌≤◌, ◌<◌}
+use mathlib.Core.Path.{◌≡◌, refl, sym, ◌∙◌}
+use mathlib.Core.Bool.{Bool, true, false, cond, ◌&&◌, ◌||◌, and-eq-true_iff, false≢true}
+use mathlib.Core.List.{List, [], ◌∷◌, ◌++◌, append-nil}
+use Prim.Native.Nat.{ℕ, ◌+◌, ◌-◌, ◌*◌, ◌/◌, ◌%◌, ◌≤◌}
 use native.Mathlib.Omega.{arith}
 use lib.Dec.{leb, eqb}
 use lib.ListN.{length}
 use borrow.Author.Tests.{leb-true, le-leb, eqb-true, eqb-false, eq-eqb}
 use Rattle.ground.specs.Boundary.{is_base, is_zone, named}
-use Rattle.ground.specs.Name.{name_of}
-use Rattle.lines.specs.Spell.{Command, «use», site, path, masts, ascii, capital, digit, in_name, all, is_name, is_number, value, Numeral, Spells, SpellsUse, SpellsSite, SpellsPath, SpellsMasts}
+use Rattle.lines.specs.Spell.{Command, «use», site, path, masts, ascii, capital, digit, in_name, all, is_name, is_number, value, Numeral, Spells}
 use Rattle.lines.specs.Line.{Part, ◌then◌, nothing, one, some, text, name, number, spaced_number, zone_of, use_rest, site_rest, two_names, path_rest, masts_rest, after_first, command}
 use Rattle.lines.proofs.Laws.Reader.{Language, Ends, Reads, free, ends_free, last, One, Nothing, Run, Joined, reads_nothing, reads_one, reads_some, reads_then, reads_as, reads_last, first_ends}
 

@@ -3,19 +3,19 @@
 -- that a command is read as it is spelled. Assumes nothing.
 use mathlib.Core.Path.{◌≡◌, refl, sym, ◌∙◌, ap}
 use mathlib.Core.Logic.{◌↔◌, ◌⊎◌, inl, inr, ⊎_elim}
-use mathlib.Core.Bool.{Bool, true, false, cond, ◌&&◌, and-eq-true_iff, false≢true}
+use mathlib.Core.Bool.{Bool, true, false, cond, ◌&&◌, and-eq-true_iff}
 use mathlib.Core.List.{List, [], ◌∷◌, ◌++◌, append_assoc, append-nil}
-use Prim.Native.Nat.{ℕ, zero, suc, ◌+◌, ◌-◌, ◌≤◌, ◌<◌}
+use Prim.Native.Nat.{ℕ, suc, ◌+◌, ◌≤◌, ◌<◌}
 use native.Mathlib.Decide.{dec_lt}
 use native.Mathlib.Omega.{arith}
 use lib.Dec.{leb, eqb}
-use lib.ListN.{length, take, drop, get_or, length-append, length-take, get_or-append}
-use lib.Seq.{split_at, take-suc, take_all, take-length, take-take, take-append-le, get_or-take, length-take-le}
-use borrow.Author.Tests.{leb-true, eqb-true, eqb-false, eq-eqb, ne_eqb}
-use Rattle.lines.specs.Spell.{Command, «use», site, path, masts, capital, digit, in_name, all, is_name, is_number, Numeral, use·word, site·word, path·word, masts·word, Spells, Legal}
+use lib.ListN.{length, take, drop, get_or, length-append, get_or-append}
+use lib.Seq.{split_at, take-suc, take-length, take-take, take-append-le, get_or-take, length-take-le}
+use borrow.Author.Tests.{leb-true, eqb-true, eq-eqb, ne_eqb}
+use Rattle.lines.specs.Spell.{Command, «use», site, path, masts, capital, digit, in_name, all, is_name, is_number, use·word, site·word, path·word, masts·word, Spells, Legal}
 use Rattle.lines.specs.Bad.{Begins, BadAfter}
 use Rattle.lines.specs.Line.{Part, part, stopped, command, Reading, legal, bad, ended, reading}
-use Rattle.lines.proofs.Laws.Reader.{size, Reads, last}
+use Rattle.lines.proofs.Laws.Reader.{size}
 use Rattle.lines.proofs.Laws.Grammar.{reads_command}
 
 -- a line that spells a command is read as that command

@@ -1,6 +1,5 @@
 -- `read_line` meets its contract: the command at the place is that of its line, since no command has a line feed in it, and after it the line has
 -- to end. Assumes nothing.
-use borrow.Author.Rules.{rules}
 use borrow.Author.Tests.{ne_eqb, not-true, not-false}
 use mathlib.Core.Path.{◌≡◌, sym, ◌∙◌, ap}
 use mathlib.Core.Bool.{cond}
@@ -21,8 +20,8 @@ use Rattle.lines.specs.declared.Said.{Said}
 use Rattle.lines.proofs.Laws.Place.{Went, Halted}
 use Rattle.lines.proofs.Laws.Handed.{said, GotCommand, got, lost}
 use Rattle.lines.proofs.Laws.Feed.{command_of_line, command_within, wrong_within, line_ends, line_short}
-use Rattle.lines.proofs.read_line.Statement.{statement}
-use Rattle.lines.proofs.read_line.Tie as tie
+use Rattle.lines.proofs.read_line.Goals.{Else-not-said}
+use Rattle.lines.proofs.read_line.Goals as goal
 
 -- no command is read
 none_read : {s : List ℕ} {from to : ℕ} → Halted command s from to → ReadsLine s from (record { line = line.Bad (to - from + 1); at = to })
@@ -53,45 +52,38 @@ module _ {s : List ℕ} {c : Command} {from to : ℕ} (w : Went command s c from
   read_right : {l : Line} → get_or s to 10 ≡ 10 → l ≡ keyed (legal c) → ReadsLine s from (record { line = l; at = to })
   read_right e q = reads (rw (ended_by, e) q)
 
-returns : tie.Need-returns
-returns c =
-    let read = c.before.before in
-    let a = read.before.before.args in
-    none_read (lost said command a.s.now a.from _ read.read-command.ensures (not-true _ c.if1.true))
+pub returns-then-not-said : goal.returns-then-not-said
+returns-then-not-said c =
+    let a = c.args in
+    none_read (lost said command a.s.now a.from _ c.read_command-said.ensures (not-true _ c.if-not-said.true))
 
-sub-t7 : tie.Need-overflow-sub-t7
-sub-t7 c = (returns c).after
+pub overflow_sub-result : goal.overflow_sub-result
+overflow_sub-result c = (returns-then-not-said c).after
 
-add-t8 : tie.Need-overflow-add-t8
-add-t8 c =
-    let a = c.before.before.before.before.args in
-    omega (arith, (returns c).after, (returns c).within, line_short a.s.now a.from)
+pub overflow_add-result : goal.overflow_add-result
+overflow_add-result c =
+    let a = c.args in
+    omega (arith, (returns-then-not-said c).after, (returns-then-not-said c).within, line_short a.s.now a.from)
 
 -- Past the refusal:
-is-command : (c : tie.Else1) → (
-    let read = c.before.before in
-    GotCommand read.before.before.args.s.now read.before.before.args.from read.read-command.result
+is-command : (c : Else-not-said) → (
+    GotCommand c.args.s.now c.args.from c.read_command-said.result
     )
-is-command c = got said command _ _ _ c.before.before.read-command.ensures (not-false _ c.if1.false)
+is-command c = got said command _ _ _ c.read_command-said.ensures (not-false _ c.if-not-said.false)
 
-returns-2 : tie.Need-returns-2
-returns-2 c = read-wrong (is-command c.before.before).went λ e. c.if2.true (c.before.byte_at.ensures ∙ e)
+pub returns-then-byte_at-ne-LINE_FEED : goal.returns-then-byte_at-ne-LINE_FEED
+returns-then-byte_at-ne-LINE_FEED c = read-wrong (is-command (goal.at.returns-then-byte_at-ne-LINE_FEED c).Else-not-said).went λ e. c.if-byte_at-ne-LINE_FEED.true (c.byte_at.ensures ∙ e)
 
-sub-t11 : tie.Need-overflow-sub-t11
-sub-t11 c = (returns-2 c).after
+pub overflow_sub-result-then-byte_at-ne-LINE_FEED : goal.overflow_sub-result-then-byte_at-ne-LINE_FEED
+overflow_sub-result-then-byte_at-ne-LINE_FEED c = (returns-then-byte_at-ne-LINE_FEED c).after
 
-add-t12 : tie.Need-overflow-add-t12
-add-t12 c =
-    let a = c.before.before.before.before.before.before.args in
-    omega (arith, (returns-2 c).after, (returns-2 c).within, line_short a.s.now a.from)
+pub overflow_add-result-then-byte_at-ne-LINE_FEED : goal.overflow_add-result-then-byte_at-ne-LINE_FEED
+overflow_add-result-then-byte_at-ne-LINE_FEED c =
+    let a = c.args in
+    omega (arith, (returns-then-byte_at-ne-LINE_FEED c).after, (returns-then-byte_at-ne-LINE_FEED c).within, line_short a.s.now a.from)
 
-returns-3 : tie.Need-returns-3
-returns-3 c =
-    let is = is-command c.before.before in
+pub returns : goal.returns
+returns c =
+    let is = is-command (goal.at.returns c).Else-not-said in
     let line : Said → Line = λ r. r.line in
-    read_right is.went (sym c.before.byte_at.ensures ∙ c.if2.false) (ap line is.is)
-
-pub read-line-spec : {M : Type 1} → statement M
-read-line-spec =
-    tie.close
-    (tie.spec (search rules) sub-t7 add-t8 returns (search rules) sub-t11 add-t12 returns-2 returns-3)
+    read_right is.went (sym c.byte_at.ensures ∙ c.if-byte_at-ne-LINE_FEED.false) (ap line is.is)

@@ -1,0 +1,35 @@
+-- `least_second` meets its contract, by the law of the least second mast: what each sample does to it. Assumes nothing.
+use Prim.Native.Nat.{◌+◌, ◌*◌, ◌≤◌}
+use native.Mathlib.Omega.{arith}
+use Rattle.masts.specs.Inside.{most_raised}
+use Rattle.masts.proofs.Laws.Masts.{none_tried, stays, rises, least_within, least_at_end}
+use Rattle.masts.proofs.sight.least_second.Goals.{At-loop-i, then-height-need, else-height-need}
+use Rattle.masts.proofs.sight.least_second.Goals as goal
+
+pub loop-i-init : goal.loop-i-init
+loop-i-init c = (omega arith, none_tried)
+
+-- the mast so far is no taller than one that clears the path
+bounded : (w : At-loop-i) → w.args.last + 1000 * w.loop-i.mast ≤ most_raised
+bounded w =
+    let some = w.requires.1 in
+    omega (arith, least_within w.loop-i.invariant.1 w.loop-i.invariant.0 some.mast some.clear)
+
+pub overflow_mul-mast : goal.overflow_mul-mast
+overflow_mul-mast c = omega (arith, bounded c.before)
+
+pub overflow_add-last : goal.overflow_add-last
+overflow_add-last c = omega (arith, bounded c.before)
+
+pub line-height-requires : goal.line-height-requires
+line-height-requires c = omega (arith, bounded c.before)
+
+pub loop-i-preserved : goal.loop-i-preserved
+loop-i-preserved c =
+    elim c.if-height-need.branch [
+      | then-height-need w ↦ (omega arith, rw w.mast-is (rises c.loop-i.invariant.1 c.line-height.ensures w.rounded_up-mast.ensures))
+      | else-height-need w ↦ (omega arith, rw w.mast-is (stays c.loop-i.invariant.1 (omega arith)))
+    ]
+
+pub returns : goal.returns
+returns c = least_at_end c.loop-i.invariant.1 (omega arith)
