@@ -4,9 +4,9 @@ use crate::file::LENGTH;
 use crate::points::ask;
 
 // Prints the answers at points whose own rectangle is not covered: in column 15 of rectangle 51, to the
-// west; in row 31 of rectangle 150, to the south; in the corner of rectangle 150, to the south_west; in
+// west; in row 31 of rectangle 150, to the south; in the corner of rectangle 150, to the south-west; in
 // the corner of rectangles 150 and 51, of which the western one is tried first; one metre past a seam;
-// and on a western edge only, where the rectangle to the south_west is covered.
+// and on a western edge only, where the rectangle to the south-west is covered.
 fn whole(file: &[u8; LENGTH]) {
     ask(file, [17, 515000, 4434250]);
     ask(file, [17, 500250, 4464000]);

@@ -60,7 +60,7 @@ fn whole(file: &[u8; LENGTH]) {
 
 // Prints the answers where a spot sees the damage: M above the records, and below 6 at a point off the
 // ground; an entry above M; an own entry of 6, off the seams and on two of them; and an entry of 6 to
-// the west, to the south and to the south_west.
+// the west, to the south and to the south-west.
 fn seen(file: [u8; LENGTH]) {
     damaged(file, 3072, 10, 500250, 4434250);
     damaged(file, 3072, 5, 875000, 4433000);

@@ -3,7 +3,7 @@ use crate::file::{BASE, LENGTH, ZONE};
 use crate::points::at;
 use crate::{file, say};
 
-// The code fx metres east and fy metres north of the square's south_west corner.
+// The code fx metres east and fy metres north of the square's south-west corner.
 fn code(file: &[u8; LENGTH], fx: u32, fy: u32) -> u32 {
     let point = at(500000 + fx % 500, 4443000 + fy % 500);
     janlishuk::janlishuk_read(file, BASE, ZONE, point).code
@@ -14,8 +14,8 @@ fn corner(file: &mut [u8; LENGTH], w: u32, code: u32) {
     file::put(file, 512 * 7 + w % 512, 8192 * (code % 8) + 200);
 }
 
-// Prints the codes of the corners SW, SE, NW and NE, and then the code at points: on the south_west
-// corner; on the edges, half way and past it; in the middle; nearer to the south_west corner, which the
+// Prints the codes of the corners SW, SE, NW and NE, and then the code at points: on the south-west
+// corner; on the edges, half way and past it; in the middle; nearer to the south-west corner, which the
 // other three outweigh in the first of the two; and nearer to the north-east one.
 fn vote(file: [u8; LENGTH], sw: u32, se: u32, nw: u32, ne: u32) {
     let mut other = file;

@@ -10,7 +10,7 @@ const METRE: u32 = 250000;
 // An exact height of a tenth of a metre.
 const TENTH: u32 = METRE / 10;
 
-// The elevation of the south_west corner.
+// The elevation of the south-west corner.
 const SW: u32 = 100;
 
 // The elevation of the south-east corner.
@@ -28,7 +28,7 @@ fn corners(nw: u32, ne: u32) -> [u8; LENGTH]
     file
 }
 
-// Prints the exact height of the point fx and fy metres past the south_west corner, and its metres.
+// Prints the exact height of the point fx and fy metres past the south-west corner, and its metres.
 fn height(file: &[u8; LENGTH], fx: u32, fy: u32)
     requires { (fx ≤ 499) × (fy ≤ 499) }
 {

@@ -4,10 +4,10 @@ ghost use Rattle.std.specs.Prelude.{◌≤◌};
 use crate::file::ZONE;
 use janlishuk::{Metres, Point};
 
-// The easting of the south_west corner of rectangle 50.
+// The easting of the south-west corner of rectangle 50.
 pub(crate) const WEST: u32 = 500000;
 
-// The northing of the south_west corner of rectangle 50.
+// The northing of the south-west corner of rectangle 50.
 pub(crate) const SOUTH: u32 = 4433000;
 
 // The point at this easting and northing.
@@ -19,7 +19,7 @@ pub(crate) fn at(easting: u32, northing: u32) -> Point {
     }
 }
 
-// The point `east` and `north` metres past the south_west corner of rectangle 50.
+// The point `east` and `north` metres past the south-west corner of rectangle 50.
 pub(crate) fn past_corner(east: u32, north: u32) -> Point
     requires { (east ≤ 14999) × (north ≤ 15499) }
 {

@@ -34,7 +34,7 @@ abbrev pub when : Bool → Place → List Place → List Place
 when true s rest = s ∷ rest
 when false s rest = rest
 
--- where a point may be read beside its own rectangle, in the order of trial: to the west, to the south, in the corner of the south_west one
+-- where a point may be read beside its own rectangle, in the order of trial: to the west, to the south, in the corner of the south-west one
 abbrev pub beside : Place → List Place
 beside s =
     when (west_allowed s) (in_west s)

@@ -24,7 +24,7 @@ pub struct Words {
     pub ne: usize,
 }
 
-// Where a point lies: a rectangle, the column wx and row wy of the word at the point's south_west
+// Where a point lies: a rectangle, the column wx and row wy of the word at the point's south-west
 // corner in it, the metres fx and fy past that corner, and the weights. The place of a refusal is
 // another thing, a sample's number.
 #[derive(Clone, Copy)]
@@ -38,7 +38,7 @@ pub struct Place {
 }
 
 impl Weights {
-    // The weights fx metres east and fy metres north of the south_west corner.
+    // The weights fx metres east and fy metres north of the south-west corner.
     pub(crate) fn at(fx: Metres, fy: Metres) -> Weights
         requires { (fx.0 < 500) × (fy.0 < 500) }
         ensures { result ≡ weights_of fx fy }
@@ -71,7 +71,7 @@ impl Place {
         }
     }
 
-    // The word of the south_west corner, w = 16 wy + wx + 1, for a place in a record. Row and column are put
+    // The word of the south-west corner, w = 16 wy + wx + 1, for a place in a record. Row and column are put
     // together in their own 32 bits, so that one number is widened and not two.
     pub fn word(self) -> usize
         requires { word self ≤ 512 }

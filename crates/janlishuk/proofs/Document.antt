@@ -115,7 +115,7 @@ module _ (file : List ℕ) where
 
   -- Document 02, request b), which says from which rectangle a point is read: "When the own rectangle isn't covered, a point with wx = 0 and fx = 0 may be read
   -- from column 15 of the rectangle to the west, one with wy = 0 and fy = 0 from row 31 of the one to the south, and one with all four 0 also from the corner
-  -- of the south_west one. Try own, west, south, south_west, and take the first covered. No rectangle lies west of column 0 or south of row 0, and rectangle 0
+  -- of the south-west one. Try own, west, south, south-west, and take the first covered. No rectangle lies west of column 0 or south of row 0, and rectangle 0
   -- stays uncovered."
   module _ (b z : ℕ) (p : Point) where
     abbrev OnWest : Type 0

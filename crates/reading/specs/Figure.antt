@@ -18,7 +18,7 @@ bare_word elevation = (8192 * 2 + elevation) / 256 ∷ (8192 * 2 + elevation) % 
 abbrev corners : ℕ → ℕ → ℕ → ℕ → List ℕ
 corners sw se nw ne = bare_word sw ++ bare_word se ++ replicate 28 0 ++ bare_word nw ++ bare_word ne
 
--- base 40, zone 17, fx metres east and fy metres north of the south_west corner of rectangle 50, read from these bytes: the height in 1/250,000 m,
+-- base 40, zone 17, fx metres east and fy metres north of the south-west corner of rectangle 50, read from these bytes: the height in 1/250,000 m,
 -- and in metres
 abbrev read_in : List ℕ → ℕ → ℕ → Outcome (ℕ × Float)
 read_in bytes fx fy =

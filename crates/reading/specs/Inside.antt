@@ -59,7 +59,7 @@ pub record OnLine (bytes : List ℕ) (s : Place) : Type 0 where
   pub se : 0 < s.fx.0 → 2 * (words_of s).se ≤ length bytes
   pub nw : 0 < s.fy.0 → 2 * (words_of s).nw ≤ length bytes
 
--- the edge has the word of the south_west corner, and that of the next one on the line, to the north or to the east, where it weighs in, else 0
+-- the edge has the word of the south-west corner, and that of the next one on the line, to the north or to the east, where it weighs in, else 0
 pub record EdgeUnder (bytes : List ℕ) (s : Place) (e : Edge) : Type 0 where
   pub first : first e.0 ≡ nth bytes (words_of s).sw
   pub next :

@@ -84,7 +84,7 @@ impl Edge {
         Edge(turned(four_from(bytes, 2 * (w - 1))))
     }
 
-    // The edge under a point of a grid line, from its south_west corner to the next one: to the north where
+    // The edge under a point of a grid line, from its south-west corner to the next one: to the north where
     // fx is 0, else to the east. The word of that one is looked at where it weighs in, else 0 stands for it.
     pub(crate) fn under(bytes: &[u8], place: Place) -> Edge
         requires { OnLine bytes.now place }

@@ -29,7 +29,7 @@ InIndex file n = (n < 3072) × (index_bytes ≤ length file)
 abbrev pub entry_where : List ℕ → Bool → ℕ → ℕ
 entry_where file c n = cond c (entry file n) 0
 
--- fx and fy are below 500, and the weights are those of a point that far past the south_west corner
+-- fx and fy are below 500, and the weights are those of a point that far past the south-west corner
 pub record Measured (s : Place) : Type 0 where
   pub x : s.fx.0 ≤ 499
   pub y : s.fy.0 ≤ 499

@@ -33,7 +33,7 @@ first_covered file [] = refused 5 0
 first_covered file (s ∷ rest) = cond (covered file (number s.rectangle)) (given (record_at file s)) (first_covered file rest)
 
 -- The record that a point is read from, and where in that record's rectangle the point lies. Document 02, request b): the first covered of the allowed
--- rectangles, own, west, south, south_west; 5 when none of them is covered.
+-- rectangles, own, west, south, south-west; 5 when none of them is covered.
 unfoldable pub taken : List ℕ → Place → Outcome Taken
 taken file s = first_covered file (allowed s)
 

@@ -52,7 +52,7 @@ fn entry_before(file: &[u8], allowed: bool, n: usize, back: usize) -> usize
 }
 
 // The record that the index names for a point of rectangle n, whose own entry is 0: by the first entry
-// that is not 0 of the rectangles to the west, south and south_west, of those that its place allows; or
+// that is not 0 of the rectangles to the west, south and south-west, of those that its place allows; or
 // refusal 5. Its number is not compared with M yet.
 fn take_beside(file: &[u8], place: Place, n: usize) -> Sought
     requires { InIndex file.now n × (n ≡ number place.rectangle) }

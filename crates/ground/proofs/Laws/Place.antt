@@ -48,7 +48,7 @@ lies g p h =
       wy = le_of_suc-le-suc y.units;
     }
 
--- the weights balance at the point, fx metres east and fy metres north of the south_west corner, and add up to 250,000
+-- the weights balance at the point, fx metres east and fy metres north of the south-west corner, and add up to 250,000
 pub record Weighs (fx fy : Metres) (w : Weights) : Type 0 where
   pub east : w.se + w.ne ≡ 500 * fx.0
   pub north : w.nw + w.ne ≡ 500 * fy.0

@@ -54,7 +54,7 @@ west_number s e = omega (arith, ((on_west s).0 e).beyond)
 pub south_number : (s : Place) → south_allowed s ≡ true → number s.rectangle ≡ number (in_south s).rectangle + 100
 south_number s e = omega (arith, ((on_south s).0 e).beyond)
 
--- the rectangle to the south_west has the number 101 before
+-- the rectangle to the south-west has the number 101 before
 pub corner_number : (s : Place) → (west_allowed s && south_allowed s) ≡ true → number s.rectangle ≡ number (in_south (in_west s)).rectangle + 101
 corner_number s e =
     let t = (and-eq-true_iff (west_allowed s) (south_allowed s)).0 e in

@@ -21,7 +21,7 @@ axis s t o v hs ht h =
       metres = mod-lt v hs;
     }
 
--- the weights of the corners of a square of side s, at x east and y north of its south_west corner: they balance at that point, the two in
+-- the weights of the corners of a square of side s, at x east and y north of its south-west corner: they balance at that point, the two in
 -- the east weighing s * x and the two in the north s * y, and together weigh s * s
 pub record Square (s x y : ℕ) : Type 0 where
   pub east : x * (s - y) + x * y ≡ s * x

@@ -21,7 +21,7 @@ pub row_given : (file : List ℕ) (base zone : ℕ) (p q : Point) (pr : Profile)
 unfolding row
 row_given file base zone p q pr e i h = simp (link_given file base zone (ask_sample p q i) pr e (record { a = omega arith; b = omega arith; i = h }))
 
--- half_way is 0.5, as a double 1 x 2^-1
+-- half-way is 0.5, as a double 1 x 2^-1
 pub half_way : share 1 2 ≡ fin false 1 (negsuc 0)
 unfolding div of_int
 half_way = refl

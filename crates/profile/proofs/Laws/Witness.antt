@@ -1,4 +1,4 @@
--- Some path is read, so no law of a path that is read speaks of nothing. It goes 1 km due east from the south_west corner of rectangle 50, in a file that
+-- Some path is read, so no law of a path that is read speaks of nothing. It goes 1 km due east from the south-west corner of rectangle 50, in a file that
 -- passes the check and has that rectangle's record. Assumes nothing.
 use mathlib.Core.Path.{◌≡◌, refl, ap}
 use Rattle.ground.specs.Outcome.{given, ◌and_then◌}

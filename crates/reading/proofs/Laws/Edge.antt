@@ -31,7 +31,7 @@ use Rattle.reading.proofs.Laws.Vote.{greatest_only, greatest_by, vote_is}
 pub told_apart : (n a b : ℕ) → n ≡ 65536 * a + b → b ≤ 65535 → (first n ≡ a) × (second n ≡ b)
 told_apart n a b is h = (omega arith, omega arith)
 
--- Which corners weigh in: the south_west one always, those to the east off the line from south to north, and those to the north off the other.
+-- Which corners weigh in: the south-west one always, those to the east off the line from south to north, and those to the north off the other.
 module _ (fx fy : Metres) (x : fx.0 ≤ 499) (y : fy.0 ≤ 499) where
   sw_weighs : 0 < (weights_of fx fy).sw
   unfolding weights_of
@@ -66,7 +66,7 @@ module _ {file : List ℕ} {t : Taken} (reaches : Reaches file t) where
   long : length bytes ≡ 1024
   long = record_long file t.entry (omega (arith, reaches.past)) reaches.recorded
 
-  -- the south_west corner always weighs in, and its word is one of the record's
+  -- the south-west corner always weighs in, and its word is one of the record's
   pub word_in : word t.place ≤ 512
   word_in = (rw m.weights at reaches.words).sw.1 (sw_weighs fx fy m.x m.y)
 

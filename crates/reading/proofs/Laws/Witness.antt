@@ -1,4 +1,4 @@
--- Some point is read, so no law of a reading speaks of nothing: the south_west corner of rectangle 50, in a file that passes the check and covers it.
+-- Some point is read, so no law of a reading speaks of nothing: the south-west corner of rectangle 50, in a file that passes the check and covers it.
 -- Assumes nothing.
 use mathlib.Core.Path.{◌≡◌, refl}
 use native.Mathlib.Omega.{arith}
@@ -17,7 +17,7 @@ use Rattle.reading.specs.Reading.{reading}
 use Rattle.reading.specs.declared.point.Reading.{Reading}
 use Rattle.reading.proofs.Laws.Reading.{read_exactly}
 
--- the south_west corner of rectangle 50
+-- the south-west corner of rectangle 50
 abbrev pub tower : Point
 tower = record { zone = 17; easting = metres 500000; northing = metres 4433000 }
 

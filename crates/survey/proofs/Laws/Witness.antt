@@ -1,4 +1,4 @@
--- Some survey is given, so no law of an upload that is given speaks of nothing: one point at the south_west corner of rectangle 50, in a file that passes the
+-- Some survey is given, so no law of an upload that is given speaks of nothing: one point at the south-west corner of rectangle 50, in a file that passes the
 -- check and has that rectangle's record, with room for two. Assumes nothing.
 use mathlib.Core.Path.{◌≡◌, refl, ap}
 use mathlib.Core.List.{[], ◌∷◌}

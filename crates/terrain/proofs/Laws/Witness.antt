@@ -89,7 +89,7 @@ pub record TakenAt (E N row column : ℕ) : Type 0 where
   pub wy : source.place.wy.0 ≡ row
   pub wx : source.place.wx.0 ≡ column
 
--- the four corners of rectangle 50: its own, and those to the west, to the south and to the south_west of which it is
+-- the four corners of rectangle 50: its own, and those to the west, to the south and to the south-west of which it is
 pub corners_taken : TakenAt 500000 4433000 0 0 × (TakenAt 507500 4433000 0 15 × (TakenAt 500000 4448500 31 0 × TakenAt 507500 4448500 31 15))
 unfolding y_b rows weights_of place_at place_of allowed nth entry first_covered taken file blank
 corners_taken = (

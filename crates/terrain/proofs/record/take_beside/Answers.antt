@@ -73,7 +73,7 @@ entry_before-entry-requires-3 c = (
       omega (arith, c.requires.1, corner_number c.args.place (sym (both c) ∙ t)),
 )
 
--- what comes of trying the rectangle to the south_west
+-- what comes of trying the rectangle to the south-west
 corner : (c : After-entry_before-entry-3) → (
     let a = c.args in
     let s = a.place in

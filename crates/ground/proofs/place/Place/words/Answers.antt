@@ -1,4 +1,4 @@
--- `Place::words` meets its contract: one, sixteen and seventeen past the word of the south_west corner. Assumes nothing.
+-- `Place::words` meets its contract: one, sixteen and seventeen past the word of the south-west corner. Assumes nothing.
 use native.Mathlib.Nat.{add_assoc}
 use Rattle.ground.proofs.place.Place.words.Goals as goal
 
