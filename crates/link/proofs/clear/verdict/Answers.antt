@@ -1,15 +1,13 @@
 -- `verdict` meets its contract: what `sight` says of the path, without N. Assumes nothing.
 use mathlib.Core.Path.{◌≡◌, refl}
 use Prim.Native.Nat.{ℕ}
-use borrow.Author.Rules.{rules}
 use Rattle.ground.specs.Outcome.{Outcome, given, refused, ◌and_then◌}
 use Rattle.path.specs.Path.{ask_masts}
 use Rattle.profile.specs.Profile.{Link, linked}
 use Rattle.link.specs.Clear.{clear, sight, sight_answer, verdict, verdict_answer}
 use Rattle.link.specs.declared.clear.SightAnswer.{SightAnswer}
 use Rattle.link.specs.declared.clear.VerdictAnswer.{VerdictAnswer}
-use Rattle.link.proofs.clear.verdict.Statement.{statement}
-use Rattle.link.proofs.clear.verdict.Tie as tie
+use Rattle.link.proofs.clear.verdict.Goals as goal
 
 -- the answer without N
 abbrev without : SightAnswer → VerdictAnswer
@@ -21,11 +19,8 @@ same : (o : Outcome Link) (a b : ℕ)
 same (given l) a b = refl
 same (refused number place) a b = refl
 
-returns : tie.Need-returns
+pub returns : goal.returns
 unfolding sight verdict
 returns c =
-    let a = c.before.before.args in
-    rw c.sight.ensures (same (linked a.file.now a.base a.zone (ask_masts a.first a.second a.a a.b)) a.a a.b)
-
-pub verdict-spec : {M : Type 1} → statement M
-verdict-spec = tie.close (tie.spec (search rules) returns)
+    let a = c.args in
+    rw c.sight-seen.ensures (same (linked a.file.now a.base a.zone (ask_masts a.first a.second a.a a.b)) a.a a.b)
