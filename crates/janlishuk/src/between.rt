@@ -9,8 +9,7 @@ use profile::ProfileAnswer;
 use profile::row::RowAnswer;
 
 // N, and the exact height and surface code of each sample from 0 to N; or refusal 1 to 7.
-#[unsafe(no_mangle)]
-pub extern "C" fn janlishuk_profile(
+pub fn janlishuk_profile(
     file: &[u8],
     base: u32,
     zone: u32,
@@ -23,8 +22,7 @@ pub extern "C" fn janlishuk_profile(
 }
 
 // Whether the path is clear with masts of a and b metres, 1 or 0; or refusal 1 to 8.
-#[unsafe(no_mangle)]
-pub extern "C" fn janlishuk_verdict(
+pub fn janlishuk_verdict(
     file: &[u8],
     base: u32,
     zone: u32,
@@ -40,8 +38,7 @@ pub extern "C" fn janlishuk_verdict(
 
 // The masts, of at most la and lb metres, that make the path clear, with the least sum and, of those,
 // the lowest first mast; or refusal 1 to 9.
-#[unsafe(no_mangle)]
-pub extern "C" fn janlishuk_plan(
+pub fn janlishuk_plan(
     file: &[u8],
     base: u32,
     zone: u32,
@@ -56,8 +53,7 @@ pub extern "C" fn janlishuk_plan(
 }
 
 // The height in metres and the share of the way of sample i of the path; or refusal 1 to 8.
-#[unsafe(no_mangle)]
-pub extern "C" fn janlishuk_engine_row(
+pub fn janlishuk_engine_row(
     file: &[u8],
     base: u32,
     zone: u32,

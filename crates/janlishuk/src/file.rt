@@ -7,24 +7,21 @@ use ground::table::BaseAnswer;
 use terrain::check::CheckAnswer;
 
 // M of a file that passes, or refusal 1, 2 or 3.
-#[unsafe(no_mangle)]
-pub extern "C" fn janlishuk_check(file: &[u8], base: u32, zone: u32) -> CheckAnswer
+pub fn janlishuk_check(file: &[u8], base: u32, zone: u32) -> CheckAnswer
     ensures { Checks file.now file.now base zone result }
 {
     terrain::check::check(file, base, zone)
 }
 
 // The file's name, four bytes, or refusal 2.
-#[unsafe(no_mangle)]
-pub extern "C" fn janlishuk_name(base: u32, zone: u32) -> NameAnswer
+pub fn janlishuk_name(base: u32, zone: u32) -> NameAnswer
     ensures { Names base zone result }
 {
     ground::name::file_name(base, zone)
 }
 
 // The base of a northing in metres, or refusal 4.
-#[unsafe(no_mangle)]
-pub extern "C" fn janlishuk_base(northing: u32) -> BaseAnswer
+pub fn janlishuk_base(northing: u32) -> BaseAnswer
     ensures { FindsBase northing result }
 {
     ground::table::base_of(Metres(northing))

@@ -1,5 +1,5 @@
-// The library that others link: the exported calls, and for Rattle callers the record as a part of
-// their own bytes and the point as an enum. No call asks anything of its caller.
+// The library that others call: the calls that `janlishuk_c` exports to C, and for Rattle callers the record as
+// a part of their own bytes and the point as an enum. No call asks anything of its caller.
 #![tactic(auto)]
 
 pub use between::{janlishuk_engine_row, janlishuk_plan, janlishuk_profile, janlishuk_verdict};

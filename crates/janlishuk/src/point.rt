@@ -25,8 +25,7 @@ pub struct EngineAnswer {
 }
 
 // The exact height in 1/250,000 m and the surface code of a point, or refusal 1 to 6.
-#[unsafe(no_mangle)]
-pub extern "C" fn janlishuk_read(file: &[u8], base: u32, zone: u32, point: Point) -> ReadAnswer
+pub fn janlishuk_read(file: &[u8], base: u32, zone: u32, point: Point) -> ReadAnswer
     ensures { Reads file.now file.now base zone point result }
 {
     reading::point::read(file, base, zone, point)
@@ -35,8 +34,7 @@ pub extern "C" fn janlishuk_read(file: &[u8], base: u32, zone: u32, point: Point
 // The exact height in 1/250,000 m and the surface code of a point, or refusal 1 to 6, as `janlishuk_read`;
 // but of the index only M and the entries of the rectangles that the point may be read from, up to the
 // first that is not 0, are looked at.
-#[unsafe(no_mangle)]
-pub extern "C" fn janlishuk_spot(file: &[u8], base: u32, zone: u32, point: Point) -> ReadAnswer
+pub fn janlishuk_spot(file: &[u8], base: u32, zone: u32, point: Point) -> ReadAnswer
     ensures { Spots file.now file.now base zone point result }
 {
     spot::read(file, base, zone, point)
@@ -58,13 +56,7 @@ pub fn engine_point(file: &[u8], base: u32, zone: u32, point: Point) -> EnginePo
 }
 
 // The point as the engine takes it, in a struct, or refusal 1 to 6.
-#[unsafe(no_mangle)]
-pub extern "C" fn janlishuk_engine_point(
-    file: &[u8],
-    base: u32,
-    zone: u32,
-    point: Point,
-) -> EngineAnswer
+pub fn janlishuk_engine_point(file: &[u8], base: u32, zone: u32, point: Point) -> EngineAnswer
     ensures { Shows file.now file.now base zone point result }
 {
     match engine_point(file, base, zone, point) {

@@ -6,8 +6,7 @@ use survey::UploadAnswer;
 
 // Reads the points of a survey in the file's zone, at most 256, each as `janlishuk_read` does, and writes
 // heights, codes and refusals into the lists; or refusal 1, 2, 3 or 10, and nothing is written.
-#[unsafe(no_mangle)]
-pub extern "C" fn janlishuk_upload(
+pub fn janlishuk_upload(
     file: &[u8],
     base: u32,
     zone: u32,
