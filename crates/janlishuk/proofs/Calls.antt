@@ -4,7 +4,7 @@ use mathlib.Core.Path.{◌≡◌, refl, sym, ◌∙◌, ap}
 use mathlib.Core.Bool.{Bool}
 use mathlib.Core.List.{List, [], ◌∷◌, ◌++◌}
 use Prim.Native.Nat.{ℕ}
-use denote.Ref.{Bor}
+use denote.Ref.{Bor, MutBor}
 use Rattle.ground.specs.Outcome.{refused, refusal_number, refusal_place, filled_by}
 use Rattle.ground.specs.Measure.{metres}
 use Rattle.ground.specs.Name.{file_name, name_answer}
@@ -200,7 +200,7 @@ spot_call =
     })
 
 -- what five lent lists hold
-abbrev contents : Bor (List ℕ) × (Bor (List ℕ) × (Bor (List ℕ) × (Bor (List ℕ) × (Bor (List ℕ) × Unit {0})))) → Lists
+abbrev contents : Bor (List ℕ) × (Bor (List ℕ) × (MutBor (List ℕ) × (MutBor (List ℕ) × (MutBor (List ℕ) × Unit {0})))) → Lists
 contents (eastings, (northings, (heights, (codes, (refusals, end))))) =
     five_lists eastings.now northings.now heights.now codes.now refusals.now
 
@@ -390,7 +390,7 @@ module _ (κs : read_call.call.K) (a : read_call.call.A κs) (r : ReadAnswer) (x
 -- Demand 1 written out for `janlishuk_upload`, in the caller's own five lists: as they were lent, and as they are left.
 module _ (κs : upload_call.call.K) (a : upload_call.call.A κs) where
   -- five lists one after the other, each under its own name
-  abbrev by_name : Bor (List ℕ) × (Bor (List ℕ) × (Bor (List ℕ) × (Bor (List ℕ) × (Bor (List ℕ) × Unit {0})))) → Lists
+  abbrev by_name : Bor (List ℕ) × (Bor (List ℕ) × (MutBor (List ℕ) × (MutBor (List ℕ) × (MutBor (List ℕ) × Unit {0})))) → Lists
   by_name five =
       record {
         eastings = five.0.now;

@@ -16,7 +16,7 @@ pub fn janlishuk_profile(
     first: Point,
     second: Point,
 ) -> ProfileAnswer
-    ensures { Profiles file.now file.now base zone first second result }
+    ensures { Profiles file.entry.now file.exit.now base zone first second result }
 {
     profile::profile(file, base, zone, first, second)
 }
@@ -31,7 +31,7 @@ pub fn janlishuk_verdict(
     a: u32,
     b: u32,
 ) -> VerdictAnswer
-    ensures { Judges file.now file.now base zone first second a b result }
+    ensures { Judges file.entry.now file.exit.now base zone first second a b result }
 {
     link::clear::verdict(file, base, zone, first, second, a, b)
 }
@@ -47,7 +47,7 @@ pub fn janlishuk_plan(
     la: u32,
     lb: u32,
 ) -> PlanAnswer
-    ensures { Plans file.now file.now base zone first second la lb result }
+    ensures { Plans file.entry.now file.exit.now base zone first second la lb result }
 {
     plan::plan(file, base, zone, first, second, la, lb)
 }
@@ -61,7 +61,7 @@ pub fn janlishuk_engine_row(
     second: Point,
     i: u32,
 ) -> RowAnswer
-    ensures { GivesRow file.now file.now base zone first second i result }
+    ensures { GivesRow file.entry.now file.exit.now base zone first second i result }
 {
     profile::row::engine_row(file, base, zone, first, second, i)
 }

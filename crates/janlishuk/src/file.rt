@@ -8,7 +8,7 @@ use terrain::check::CheckAnswer;
 
 // M of a file that passes, or refusal 1, 2 or 3.
 pub fn janlishuk_check(file: &[u8], base: u32, zone: u32) -> CheckAnswer
-    ensures { Checks file.now file.now base zone result }
+    ensures { Checks file.entry.now file.exit.now base zone result }
 {
     terrain::check::check(file, base, zone)
 }

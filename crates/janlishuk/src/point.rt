@@ -26,7 +26,7 @@ pub struct EngineAnswer {
 
 // The exact height in 1/250,000 m and the surface code of a point, or refusal 1 to 6.
 pub fn janlishuk_read(file: &[u8], base: u32, zone: u32, point: Point) -> ReadAnswer
-    ensures { Reads file.now file.now base zone point result }
+    ensures { Reads file.entry.now file.exit.now base zone point result }
 {
     reading::point::read(file, base, zone, point)
 }
@@ -35,7 +35,7 @@ pub fn janlishuk_read(file: &[u8], base: u32, zone: u32, point: Point) -> ReadAn
 // but of the index only M and the entries of the rectangles that the point may be read from, up to the
 // first that is not 0, are looked at.
 pub fn janlishuk_spot(file: &[u8], base: u32, zone: u32, point: Point) -> ReadAnswer
-    ensures { Spots file.now file.now base zone point result }
+    ensures { Spots file.entry.now file.exit.now base zone point result }
 {
     spot::read(file, base, zone, point)
 }
@@ -50,14 +50,14 @@ pub fn record(file: &[u8], base: u32, zone: u32, point: Point) -> &[u8]
 
 // The point as the engine takes it, land or water, or the number of refusal 1 to 6.
 pub fn engine_point(file: &[u8], base: u32, zone: u32, point: Point) -> EnginePoint
-    ensures { Tells file.now file.now base zone point result }
+    ensures { Tells file.entry.now file.exit.now base zone point result }
 {
     reading::engine::engine_point(file, base, zone, point)
 }
 
 // The point as the engine takes it, in a struct, or refusal 1 to 6.
 pub fn janlishuk_engine_point(file: &[u8], base: u32, zone: u32, point: Point) -> EngineAnswer
-    ensures { Shows file.now file.now base zone point result }
+    ensures { Shows file.entry.now file.exit.now base zone point result }
 {
     match engine_point(file, base, zone, point) {
         EnginePoint::Land(metres, code) => EngineAnswer {

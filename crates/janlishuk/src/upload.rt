@@ -16,9 +16,9 @@ pub fn janlishuk_upload(
     codes: &mut [u8],
     refusals: &mut [u8],
 ) -> UploadAnswer
-    ensures { Uploads file.now file.now base zone
-        (five_lists eastings.now northings.now heights.old codes.old refusals.old)
-        (five_lists eastings.now northings.now heights.new codes.new refusals.new)
+    ensures { Uploads file.entry.now file.exit.now base zone
+        (five_lists eastings.entry.now northings.entry.now heights.old codes.old refusals.old)
+        (five_lists eastings.exit.now northings.exit.now heights.new codes.new refusals.new)
         result }
 {
     survey::upload(

@@ -13,7 +13,7 @@ use janlishuk::{
 // M of a file that passes, or refusal 1, 2 or 3.
 #[unsafe(no_mangle)]
 pub extern "C" fn janlishuk_check(file: &[u8], base: u32, zone: u32) -> CheckAnswer
-    ensures { Checks file.now file.now base zone result }
+    ensures { Checks file.entry.now file.exit.now base zone result }
 {
     janlishuk::janlishuk_check(file, base, zone)
 }
@@ -37,7 +37,7 @@ pub extern "C" fn janlishuk_base(northing: u32) -> BaseAnswer
 // The exact height in 1/250,000 m and the surface code of a point, or refusal 1 to 6.
 #[unsafe(no_mangle)]
 pub extern "C" fn janlishuk_read(file: &[u8], base: u32, zone: u32, point: Point) -> ReadAnswer
-    ensures { Reads file.now file.now base zone point result }
+    ensures { Reads file.entry.now file.exit.now base zone point result }
 {
     janlishuk::janlishuk_read(file, base, zone, point)
 }
@@ -46,7 +46,7 @@ pub extern "C" fn janlishuk_read(file: &[u8], base: u32, zone: u32, point: Point
 // whole index.
 #[unsafe(no_mangle)]
 pub extern "C" fn janlishuk_spot(file: &[u8], base: u32, zone: u32, point: Point) -> ReadAnswer
-    ensures { Spots file.now file.now base zone point result }
+    ensures { Spots file.entry.now file.exit.now base zone point result }
 {
     janlishuk::janlishuk_spot(file, base, zone, point)
 }
@@ -63,9 +63,9 @@ pub extern "C" fn janlishuk_upload(
     codes: &mut [u8],
     refusals: &mut [u8],
 ) -> UploadAnswer
-    ensures { Uploads file.now file.now base zone
-        (five_lists eastings.now northings.now heights.old codes.old refusals.old)
-        (five_lists eastings.now northings.now heights.new codes.new refusals.new)
+    ensures { Uploads file.entry.now file.exit.now base zone
+        (five_lists eastings.entry.now northings.entry.now heights.old codes.old refusals.old)
+        (five_lists eastings.exit.now northings.exit.now heights.new codes.new refusals.new)
         result }
 {
     janlishuk::janlishuk_upload(
@@ -81,7 +81,7 @@ pub extern "C" fn janlishuk_engine_point(
     zone: u32,
     point: Point,
 ) -> EngineAnswer
-    ensures { Shows file.now file.now base zone point result }
+    ensures { Shows file.entry.now file.exit.now base zone point result }
 {
     janlishuk::janlishuk_engine_point(file, base, zone, point)
 }
@@ -95,7 +95,7 @@ pub extern "C" fn janlishuk_profile(
     first: Point,
     second: Point,
 ) -> ProfileAnswer
-    ensures { Profiles file.now file.now base zone first second result }
+    ensures { Profiles file.entry.now file.exit.now base zone first second result }
 {
     janlishuk::janlishuk_profile(file, base, zone, first, second)
 }
@@ -111,7 +111,7 @@ pub extern "C" fn janlishuk_verdict(
     a: u32,
     b: u32,
 ) -> VerdictAnswer
-    ensures { Judges file.now file.now base zone first second a b result }
+    ensures { Judges file.entry.now file.exit.now base zone first second a b result }
 {
     janlishuk::janlishuk_verdict(file, base, zone, first, second, a, b)
 }
@@ -127,7 +127,7 @@ pub extern "C" fn janlishuk_plan(
     la: u32,
     lb: u32,
 ) -> PlanAnswer
-    ensures { Plans file.now file.now base zone first second la lb result }
+    ensures { Plans file.entry.now file.exit.now base zone first second la lb result }
 {
     janlishuk::janlishuk_plan(file, base, zone, first, second, la, lb)
 }
@@ -142,7 +142,7 @@ pub extern "C" fn janlishuk_engine_row(
     second: Point,
     i: u32,
 ) -> RowAnswer
-    ensures { GivesRow file.now file.now base zone first second i result }
+    ensures { GivesRow file.entry.now file.exit.now base zone first second i result }
 {
     janlishuk::janlishuk_engine_row(file, base, zone, first, second, i)
 }
