@@ -49,20 +49,26 @@ const QUESTIONS: [Question; COUNT] = [
 ];
 
 // Prints the answers to the questions.
-pub(crate) fn paths(file: &[u8; LENGTH]) {
+pub(crate) fn paths(rt: &impl Print, file: &[u8; LENGTH]) {
     for i in 0..COUNT {
-        ask(file, QUESTIONS[i]);
+        ask(rt, file, QUESTIONS[i]);
     }
 }
 
 // Prints the answer to a question.
-fn ask(file: &[u8; LENGTH], question: Question) {
+fn ask(rt: &impl Print, file: &[u8; LENGTH], question: Question) {
     match question {
-        Question::Profile(x0, y0, x1, y1) => profile(file, path(x0, y0, x1, y1)),
-        Question::Verdict(x0, y0, x1, y1, a, b) => verdict(file, path(x0, y0, x1, y1), a, b),
-        Question::Plan(x0, y0, x1, y1, la, lb) => plan(file, path(x0, y0, x1, y1), la, lb),
+        Question::Profile(x0, y0, x1, y1) => profile(rt, file, path(rt, x0, y0, x1, y1)),
+        Question::Verdict(x0, y0, x1, y1, a, b) => verdict(
+            rt,
+            file,
+            path(rt, x0, y0, x1, y1),
+            a,
+            b,
+        ),
+        Question::Plan(x0, y0, x1, y1, la, lb) => plan(rt, file, path(rt, x0, y0, x1, y1), la, lb),
         Question::Row(x0, y0, x1, y1, i, n, tenths) => {
-            row(file, path(x0, y0, x1, y1), i, n, tenths)
+            row(rt, file, path(rt, x0, y0, x1, y1), i, n, tenths)
         }
     }
 }
@@ -75,8 +81,8 @@ struct Ends {
 }
 
 // Prints the ends of the path between two points of the file's zone, and gives them back.
-fn path(x0: u32, y0: u32, x1: u32, y1: u32) -> Ends {
-    say::line(b"path", &[x0, y0, x1, y1]);
+fn path(rt: &impl Print, x0: u32, y0: u32, x1: u32, y1: u32) -> Ends {
+    say::line(rt, b"path", &[x0, y0, x1, y1]);
     Ends {
         first: at(x0, y0),
         second: at(x1, y1),
@@ -84,29 +90,31 @@ fn path(x0: u32, y0: u32, x1: u32, y1: u32) -> Ends {
 }
 
 // Prints refusal, place, N of the path's profile, and the heights and codes of its first four samples.
-fn profile(file: &[u8; LENGTH], path: Ends) {
+fn profile(rt: &impl Print, file: &[u8; LENGTH], path: Ends) {
     let answer = janlishuk::janlishuk_profile(file, BASE, ZONE, path.first, path.second);
     let h = answer.heights;
     let c = answer.codes;
-    say::line(b"  profile", &[answer.refusal, answer.place, answer.n]);
-    say::line(b"  heights", &[h[0], h[1], h[2], h[3]]);
+    say::line(rt, b"  profile", &[answer.refusal, answer.place, answer.n]);
+    say::line(rt, b"  heights", &[h[0], h[1], h[2], h[3]]);
     say::line(
+        rt,
         b"  codes",
         &[wide(c[0]), wide(c[1]), wide(c[2]), wide(c[3])],
     );
 }
 
 // Prints the masts a and b; refusal, place, and 1 where the path is clear with them.
-fn verdict(file: &[u8; LENGTH], path: Ends, a: u32, b: u32) {
+fn verdict(rt: &impl Print, file: &[u8; LENGTH], path: Ends, a: u32, b: u32) {
     let answer = janlishuk::janlishuk_verdict(file, BASE, ZONE, path.first, path.second, a, b);
     say::line(
+        rt,
         b"  verdict",
         &[a, b, answer.refusal, answer.place, answer.clear],
     );
 }
 
 // Prints the limits la and lb; refusal, place, and the masts of the plan.
-fn plan(file: &[u8; LENGTH], path: Ends, la: u32, lb: u32) {
+fn plan(rt: &impl Print, file: &[u8; LENGTH], path: Ends, la: u32, lb: u32) {
     let answer = janlishuk::janlishuk_plan(file, BASE, ZONE, path.first, path.second, la, lb);
     let masts = [
         la,
@@ -116,13 +124,17 @@ fn plan(file: &[u8; LENGTH], path: Ends, la: u32, lb: u32) {
         answer.first,
         answer.second,
     ];
-    say::line(b"  plan", &masts);
+    say::line(rt, b"  plan", &masts);
 }
 
 // Prints the sample i of n; refusal, place, height in tenths of a metre, and n times the share.
-fn row(file: &[u8; LENGTH], path: Ends, i: u32, n: u32, tenths: u32) {
+fn row(rt: &impl Print, file: &[u8; LENGTH], path: Ends, i: u32, n: u32, tenths: u32) {
     let answer = janlishuk::janlishuk_engine_row(file, BASE, ZONE, path.first, path.second, i);
     let height = say::tenths(answer.row.height, tenths);
     let share = say::sample(answer.row.share, i, n);
-    say::line(b"  row", &[i, answer.refusal, answer.place, height, share]);
+    say::line(
+        rt,
+        b"  row",
+        &[i, answer.refusal, answer.place, height, share],
+    );
 }

@@ -15,14 +15,14 @@ mod surveys;
 mod votes;
 
 // Prints the answers to all questions.
-fn main() {
+fn main(rt: HostRuntime) {
     let file = file::built();
-    names::names();
-    damage::checks(file);
-    points::points(&file);
-    seams::seams(file);
-    votes::votes(file);
-    spots::spots(file);
-    surveys::surveys(&file);
-    links::paths(&file);
+    names::names(&rt);
+    damage::checks(&rt, file);
+    points::points(&rt, &file);
+    seams::seams(&rt, file);
+    votes::votes(&rt, file);
+    spots::spots(&rt, file);
+    surveys::surveys(&rt, &file);
+    links::paths(&rt, &file);
 }

@@ -32,31 +32,32 @@ pub(crate) fn at(easting: u32, northing: u32) -> Point {
 }
 
 // Prints the answers at the points.
-pub(crate) fn points(file: &[u8; LENGTH]) {
+pub(crate) fn points(rt: &impl Print, file: &[u8; LENGTH]) {
     for i in 0..POINTS.len() {
-        ask(file, POINTS[i]);
+        ask(rt, file, POINTS[i]);
     }
 }
 
 // Prints the answers at a point.
-pub(crate) fn ask(file: &[u8; LENGTH], asked: [u32; 3]) {
-    say::line(b"point", &asked);
+pub(crate) fn ask(rt: &impl Print, file: &[u8; LENGTH], asked: [u32; 3]) {
+    say::line(rt, b"point", &asked);
     let point = Point {
         zone: asked[0],
         easting: Metres(asked[1]),
         northing: Metres(asked[2]),
     };
-    let tenths = reading(file, point);
-    record(file, point);
-    engine(file, point, tenths);
-    structure(file, point, tenths);
+    let tenths = reading(rt, file, point);
+    record(rt, file, point);
+    engine(rt, file, point, tenths);
+    structure(rt, file, point, tenths);
 }
 
 // Prints refusal, place, height and code of the reading, and gives back its height in tenths of a
 // metre.
-fn reading(file: &[u8; LENGTH], point: Point) -> u32 {
+fn reading(rt: &impl Print, file: &[u8; LENGTH], point: Point) -> u32 {
     let read = janlishuk::janlishuk_read(file, BASE, ZONE, point);
     say::line(
+        rt,
         b"  read",
         &[read.refusal, read.place, read.height, read.code],
     );
@@ -69,32 +70,32 @@ fn word(high: u8, low: u8) -> u32 {
 }
 
 // Prints the bytes of the record that a point is read from, and its first and its last word.
-fn record(file: &[u8; LENGTH], point: Point) {
+fn record(rt: &impl Print, file: &[u8; LENGTH], point: Point) {
     let record = janlishuk::record(file, BASE, ZONE, point);
     if record.len() == 1024 {
         let first = word(record[0], record[1]);
         let last = word(record[1022], record[1023]);
-        say::line(b"  record", &[1024, first, last]);
+        say::line(rt, b"  record", &[1024, first, last]);
     } else if record.len() == 0 {
-        say::line(b"  record", &[0]);
+        say::line(rt, b"  record", &[0]);
     }
 }
 
 // Prints the point as an enum: tenths of a metre and code, or the refusal.
-fn engine(file: &[u8; LENGTH], point: Point, tenths: u32) {
+fn engine(rt: &impl Print, file: &[u8; LENGTH], point: Point, tenths: u32) {
     match janlishuk::engine_point(file, BASE, ZONE, point) {
         EnginePoint::Land(metres, code) => {
-            say::line(b"  land", &[say::tenths(metres, tenths), code]);
+            say::line(rt, b"  land", &[say::tenths(metres, tenths), code]);
         }
         EnginePoint::Water(metres, code) => {
-            say::line(b"  water", &[say::tenths(metres, tenths), code]);
+            say::line(rt, b"  water", &[say::tenths(metres, tenths), code]);
         }
-        EnginePoint::Refused(number) => say::line(b"  refused", &[number]),
+        EnginePoint::Refused(number) => say::line(rt, b"  refused", &[number]),
     }
 }
 
 // Prints the point as a struct: refusal, place, kind, code, tenths of a metre.
-fn structure(file: &[u8; LENGTH], point: Point, tenths: u32) {
+fn structure(rt: &impl Print, file: &[u8; LENGTH], point: Point, tenths: u32) {
     let answer = janlishuk::janlishuk_engine_point(file, BASE, ZONE, point);
     let metres = say::tenths(answer.metres, tenths);
     let numbers = [
@@ -104,5 +105,5 @@ fn structure(file: &[u8; LENGTH], point: Point, tenths: u32) {
         answer.code,
         metres,
     ];
-    say::line(b"  struct", &numbers);
+    say::line(rt, b"  struct", &numbers);
 }

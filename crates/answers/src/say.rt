@@ -1,27 +1,25 @@
 // What is printed: a word and a row of numbers to a line.
-use libc::STDOUT_FILENO;
-
 // What stands for metres or a share other than the one expected.
 const OTHER: u32 = 999999;
 
-// Prints the text.
-pub(crate) fn text(text: &[u8]) {
-    io::write_all(STDOUT_FILENO, text);
+// Prints the text, as far as the output takes it.
+pub(crate) fn text(rt: &impl Print, text: &[u8]) {
+    let _ = rt.write_all(text);
 }
 
 // Prints a space and the number.
-fn number(number: u32) {
-    text(b" ");
-    io::print_decimal(STDOUT_FILENO, number as u64);
+fn number(rt: &impl Print, number: u32) {
+    text(rt, b" ");
+    let _ = rt.print(number);
 }
 
 // Prints a line: the word and the numbers, with a space before each.
-pub(crate) fn line(word: &[u8], numbers: &[u32]) {
-    text(word);
+pub(crate) fn line(rt: &impl Print, word: &[u8], numbers: &[u32]) {
+    text(rt, word);
     for i in 0..numbers.len() {
-        number(numbers[i]);
+        number(rt, numbers[i]);
     }
-    text(b"\n");
+    text(rt, b"\n");
 }
 
 // The byte, in 32 bits.

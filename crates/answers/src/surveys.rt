@@ -39,15 +39,15 @@ fn northings() -> [u32; ROOM] {
 }
 
 // Prints the first eight entries of a list of heights, and the last three.
-fn heights(l: &[u32; ROOM]) {
+fn heights(rt: &impl Print, l: &[u32; ROOM]) {
     let entries = [
         l[0], l[1], l[2], l[3], l[4], l[5], l[6], l[7], l[254], l[255], l[256],
     ];
-    say::line(b"  heights", &entries);
+    say::line(rt, b"  heights", &entries);
 }
 
 // Prints the first eight entries of a list of bytes, and the last three.
-fn bytes(word: &[u8], l: &[u8; ROOM]) {
+fn bytes(rt: &impl Print, word: &[u8], l: &[u8; ROOM]) {
     let entries = [
         wide(l[0]),
         wide(l[1]),
@@ -61,12 +61,12 @@ fn bytes(word: &[u8], l: &[u8; ROOM]) {
         wide(l[255]),
         wide(l[256]),
     ];
-    say::line(word, &entries);
+    say::line(rt, word, &entries);
 }
 
 // Prints how many entries are lent of the lists of eastings, northings, heights, codes and refusals;
 // refusal and place of the upload; and what the last three lists hold afterwards.
-fn survey(file: &[u8; LENGTH], e: usize, n: usize, h: usize, c: usize, r: usize)
+fn survey(rt: &impl Print, file: &[u8; LENGTH], e: usize, n: usize, h: usize, c: usize, r: usize)
     requires { (e ≤ 257) × ((n ≤ 257) × ((h ≤ 257) × ((c ≤ 257) × (r ≤ 257)))) }
 {
     let east = eastings();
@@ -75,7 +75,7 @@ fn survey(file: &[u8; LENGTH], e: usize, n: usize, h: usize, c: usize, r: usize)
     let mut codes = old_bytes();
     let mut refusals = old_bytes();
     let lent = [e as u32, n as u32, h as u32, c as u32, r as u32];
-    say::line(b"survey", &lent);
+    say::line(rt, b"survey", &lent);
     let answer = janlishuk::janlishuk_upload(
         file,
         BASE,
@@ -86,27 +86,27 @@ fn survey(file: &[u8; LENGTH], e: usize, n: usize, h: usize, c: usize, r: usize)
         &mut codes[..c],
         &mut refusals[..r],
     );
-    say::line(b"  upload", &[answer.refusal, answer.place]);
-    heights(&high);
-    bytes(b"  codes", &codes);
-    bytes(b"  refusals", &refusals);
+    say::line(rt, b"  upload", &[answer.refusal, answer.place]);
+    heights(rt, &high);
+    bytes(rt, b"  codes", &codes);
+    bytes(rt, b"  refusals", &refusals);
 }
 
 // Prints surveys of no, one, five and the most points, with and without room to spare; lists that do not
 // fit, each for one reason; and such a survey, and one that fits, of a damaged file.
-pub(crate) fn surveys(file: &[u8; LENGTH]) {
-    survey(file, 0, 0, 0, 0, 0);
-    survey(file, 1, 1, 1, 1, 1);
-    survey(file, 5, 5, 7, 7, 7);
-    survey(file, 256, 256, 256, 256, 256);
-    survey(file, 257, 257, 257, 257, 257);
-    survey(file, 5, 4, 7, 7, 7);
-    survey(file, 4, 5, 7, 7, 7);
-    survey(file, 5, 5, 4, 7, 7);
-    survey(file, 5, 5, 7, 4, 7);
-    survey(file, 5, 5, 7, 7, 4);
+pub(crate) fn surveys(rt: &impl Print, file: &[u8; LENGTH]) {
+    survey(rt, file, 0, 0, 0, 0, 0);
+    survey(rt, file, 1, 1, 1, 1, 1);
+    survey(rt, file, 5, 5, 7, 7, 7);
+    survey(rt, file, 256, 256, 256, 256, 256);
+    survey(rt, file, 257, 257, 257, 257, 257);
+    survey(rt, file, 5, 4, 7, 7, 7);
+    survey(rt, file, 4, 5, 7, 7, 7);
+    survey(rt, file, 5, 5, 4, 7, 7);
+    survey(rt, file, 5, 5, 7, 4, 7);
+    survey(rt, file, 5, 5, 7, 7, 4);
     let mut damaged = *file;
     file::put(&mut damaged, 53, 6);
-    survey(&damaged, 5, 5, 7, 7, 7);
-    survey(&damaged, 5, 4, 7, 7, 7);
+    survey(rt, &damaged, 5, 5, 7, 7, 7);
+    survey(rt, &damaged, 5, 4, 7, 7, 7);
 }

@@ -17,7 +17,7 @@ fn corner(file: &mut [u8; LENGTH], w: u32, code: u32) {
 // Prints the codes of the corners SW, SE, NW and NE, and then the code at points: on the south-west
 // corner; on the edges, half way and past it; in the middle; nearer to the south-west corner, which the
 // other three outweigh in the first of the two; and nearer to the north-east one.
-fn vote(file: [u8; LENGTH], sw: u32, se: u32, nw: u32, ne: u32) {
+fn vote(rt: &impl Print, file: [u8; LENGTH], sw: u32, se: u32, nw: u32, ne: u32) {
     let mut other = file;
     corner(&mut other, 321, sw);
     corner(&mut other, 322, se);
@@ -36,17 +36,17 @@ fn vote(file: [u8; LENGTH], sw: u32, se: u32, nw: u32, ne: u32) {
         code(&other, 50, 50),
         code(&other, 450, 400),
     ];
-    say::line(b"vote", &numbers);
+    say::line(rt, b"vote", &numbers);
 }
 
 // Prints the votes of corners with one code; with two, three to one, row by row, column by column and
 // crosswise; with three; and with four.
-pub(crate) fn votes(file: [u8; LENGTH]) {
-    vote(file, 4, 4, 4, 4);
-    vote(file, 5, 2, 2, 2);
-    vote(file, 5, 5, 2, 2);
-    vote(file, 5, 2, 5, 2);
-    vote(file, 5, 2, 2, 5);
-    vote(file, 7, 3, 1, 7);
-    vote(file, 6, 5, 3, 1);
+pub(crate) fn votes(rt: &impl Print, file: [u8; LENGTH]) {
+    vote(rt, file, 4, 4, 4, 4);
+    vote(rt, file, 5, 2, 2, 2);
+    vote(rt, file, 5, 5, 2, 2);
+    vote(rt, file, 5, 2, 5, 2);
+    vote(rt, file, 5, 2, 2, 5);
+    vote(rt, file, 7, 3, 1, 7);
+    vote(rt, file, 6, 5, 3, 1);
 }

@@ -29,58 +29,59 @@ fn corners(nw: u32, ne: u32) -> [u8; LENGTH]
 }
 
 // Prints the exact height of the point fx and fy metres past the south-west corner, and its metres.
-fn height(file: &[u8; LENGTH], fx: u32, fy: u32)
+fn height(rt: &impl Print, file: &[u8; LENGTH], fx: u32, fy: u32)
     requires { (fx ≤ 499) × (fy ≤ 499) }
 {
     let point = point::past_corner(fx, fy);
     let height = call::read(file, point).height;
-    say::numbers(b" at fx ", fx, b", fy ", fy);
-    say::number(b": ", height);
-    say::text(b", which is ");
-    say::metres(height / TENTH, call::engine_point(file, point).metres);
+    say::numbers(rt, b" at fx ", fx, b", fy ", fy);
+    say::number(rt, b": ", height);
+    say::text(rt, b", which is ");
+    say::metres(rt, height / TENTH, call::engine_point(file, point).metres);
 }
 
 // Prints the elevations of the corners, and the height of a point amid them.
-fn amid(before: &[u8], nw: u32, ne: u32, fx: u32, fy: u32)
+fn amid(rt: &impl Print, before: &[u8], nw: u32, ne: u32, fx: u32, fy: u32)
     requires { ((nw ≤ 8191) × (ne ≤ 8191)) × ((fx ≤ 499) × (fy ≤ 499)) }
 {
     let file = corners(nw, ne);
-    say::numbers(before, SW, b", ", SE);
-    say::numbers(b", ", nw, b", ", ne);
-    height(&file, fx, fy);
+    say::numbers(rt, before, SW, b", ", SE);
+    say::numbers(rt, b", ", nw, b", ", ne);
+    height(rt, &file, fx, fy);
 }
 
 // Prints a word's two bytes, and the surface code and elevation that are read of them.
-fn word(high: u32, low: u32)
+fn word(rt: &impl Print, high: u32, low: u32)
     requires { (high ≤ 255) × (low ≤ 255) }
 {
     let mut file = file::level();
     file::set(&mut file, FIRST, 1, 256 * high + low);
     let answer = call::read(&file, point::past_corner(0, 0));
-    say::numbers(b"P6: bytes ", high, b", ", low);
+    say::numbers(rt, b"P6: bytes ", high, b", ", low);
     say::numbers(
+        rt,
         b" are code ",
         answer.code,
         b", elevation ",
         answer.height / METRE,
     );
-    say::text(b"\n");
+    say::text(rt, b"\n");
 }
 
 // Prints P6: what a word means.
-pub(crate) fn p6() {
-    word(96, 100);
+pub(crate) fn p6(rt: &impl Print) {
+    word(rt, 96, 100);
 }
 
 // Prints P7: the height amid four corners.
-pub(crate) fn p7() {
-    amid(b"P7: corners ", 120, 150, 250, 250);
-    say::text(b"\n");
+pub(crate) fn p7(rt: &impl Print) {
+    amid(rt, b"P7: corners ", 120, 150, 250, 250);
+    say::text(rt, b"\n");
 }
 
 // Prints P8: the height between the south corners, also where the north ones have no height.
-pub(crate) fn p8() {
-    amid(b"P8: corners ", 120, 150, 125, 0);
-    amid(b"; corners ", 8191, 8191, 125, 0);
-    say::text(b"\n");
+pub(crate) fn p8(rt: &impl Print) {
+    amid(rt, b"P8: corners ", 120, 150, 125, 0);
+    amid(rt, b"; corners ", 8191, 8191, 125, 0);
+    say::text(rt, b"\n");
 }

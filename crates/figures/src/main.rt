@@ -14,17 +14,17 @@ mod say;
 mod verdict;
 
 // Prints the twelve figures.
-fn main() {
-    name::p1();
-    place::p2();
-    place::p3();
-    place::p4();
-    place::p5();
-    height::p6();
-    height::p7();
-    height::p8();
-    samples::p9();
-    verdict::p10();
-    plans::p11();
-    plans::p12();
+fn main(rt: HostRuntime) {
+    name::p1(&rt);
+    place::p2(&rt);
+    place::p3(&rt);
+    place::p4(&rt);
+    place::p5(&rt);
+    height::p6(&rt);
+    height::p7(&rt);
+    height::p8(&rt);
+    samples::p9(&rt);
+    verdict::p10(&rt);
+    plans::p11(&rt);
+    plans::p12(&rt);
 }

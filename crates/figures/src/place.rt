@@ -36,79 +36,79 @@ fn weighs_in(point: Point, n: u32, w: u32) -> bool
 }
 
 // Prints the word, after a comma where it is not the first.
-fn word(w: u32, is_first: bool) {
+fn word(rt: &impl Print, w: u32, is_first: bool) {
     if is_first {
-        say::number(b" ", w);
+        say::number(rt, b" ", w);
     } else {
-        say::number(b", ", w);
+        say::number(rt, b", ", w);
     }
 }
 
 // Prints the words of rectangle n that weigh in at the point.
-fn words(before: &[u8], point: Point, n: u32)
+fn words(rt: &impl Print, before: &[u8], point: Point, n: u32)
     requires { (1 ≤ n) × (n ≤ 3072) }
 {
-    say::text(before);
+    say::text(rt, before);
     let mut is_first = true;
     for w in 1..=file::WORDS {
         if weighs_in(point, n, w) {
-            word(w, is_first);
+            word(rt, w, is_first);
             is_first = false;
         }
     }
 }
 
 // Prints the point and the rectangle that it lies in, and gives the rectangle back.
-fn rectangle(before: &[u8], point: Point) -> u32
+fn rectangle(rt: &impl Print, before: &[u8], point: Point) -> u32
     ensures { (1 ≤ result) × (result ≤ 3072) }
 {
-    say::numbers(before, point.easting.0, b", ", point.northing.0);
+    say::numbers(rt, before, point.easting.0, b", ", point.northing.0);
     let n = rectangle_of(point);
-    say::number(b"): rectangle ", n);
+    say::number(rt, b"): rectangle ", n);
     n
 }
 
 // Prints the point, its rectangle and the words that weigh in, and gives the rectangle back.
-fn place(before: &[u8], point: Point, between: &[u8]) -> u32
+fn place(rt: &impl Print, before: &[u8], point: Point, between: &[u8]) -> u32
     ensures { (1 ≤ result) × (result ≤ 3072) }
 {
-    let n = rectangle(before, point);
-    words(between, point, n);
+    let n = rectangle(rt, before, point);
+    words(rt, between, point, n);
     n
 }
 
 // Prints a measure of the point, and the refusal that the point gives.
-fn refusal(before: &[u8], measure: u32, point: Point) {
+fn refusal(rt: &impl Print, before: &[u8], measure: u32, point: Point) {
     let file = file::empty();
-    say::number(before, measure);
-    say::number(b": refusal ", call::read(&file, point).refusal);
+    say::number(rt, before, measure);
+    say::number(rt, b": refusal ", call::read(&file, point).refusal);
 }
 
 // Prints P2: rectangle, word and index position of a corner of a rectangle.
-pub(crate) fn p2() {
-    let n = place(b"P2: (", point::at(500000, 4433000), b", word");
+pub(crate) fn p2(rt: &impl Print) {
+    let n = place(rt, b"P2: (", point::at(500000, 4433000), b", word");
     let byte = file::byte_of(n);
-    say::numbers(b", position at bytes ", byte, b" and ", byte + 1);
-    say::text(b"\n");
+    say::numbers(rt, b", position at bytes ", byte, b" and ", byte + 1);
+    say::text(rt, b"\n");
 }
 
 // Prints P3: rectangle and words of a point amid the last corners of a rectangle.
-pub(crate) fn p3() {
-    place(b"P3: (", point::at(507250, 4448250), b", words");
-    say::text(b"\n");
+pub(crate) fn p3(rt: &impl Print) {
+    place(rt, b"P3: (", point::at(507250, 4448250), b", words");
+    say::text(rt, b"\n");
 }
 
 // Prints P4: rectangle and word of the corner of the next rectangle to the north-east.
-pub(crate) fn p4() {
-    place(b"P4: (", point::at(507500, 4448500), b", word");
-    say::text(b"\n");
+pub(crate) fn p4(rt: &impl Print) {
+    place(rt, b"P4: (", point::at(507500, 4448500), b", word");
+    say::text(rt, b"\n");
 }
 
 // Prints P5: the rectangle of the ground's last point, and the refusal of points past its edges.
-pub(crate) fn p5() {
-    rectangle(b"P5: (", point::at(874999, 4866999));
-    refusal(b"; easting ", 875000, point::at(875000, 4866999));
-    refusal(b"; easting ", 124999, point::at(124999, 4866999));
-    refusal(b"; northing ", 4867000, point::at(874999, 4867000));
-    say::text(b"\n");
+pub(crate) fn p5(rt: &impl Print) {
+    rectangle(rt, b"P5: (", point::at(874999, 4866999));
+    refusal(rt, b"; easting ", 875000, point::at(875000, 4866999));
+    refusal(rt, b"; easting ", 124999, point::at(124999, 4866999));
+    refusal(rt, b"; northing ", 4867000, point::at(874999, 4867000));
+    say::text(rt, b"\n");
 }

@@ -11,7 +11,7 @@ const LIMIT: u32 = 100;
 const OVER: u32 = 1000;
 
 // Prints the masts of the path that leads `east` metres to the east, or the refusal.
-fn masts(file: &[u8; LENGTH], east: u32)
+fn masts(rt: &impl Print, file: &[u8; LENGTH], east: u32)
     requires { east ≤ 14999 }
 {
     let answer = call::plan(
@@ -21,19 +21,19 @@ fn masts(file: &[u8; LENGTH], east: u32)
         LIMIT,
     );
     if answer.refusal == 0 {
-        say::numbers(b": masts ", answer.first, b" and ", answer.second);
+        say::numbers(rt, b": masts ", answer.first, b" and ", answer.second);
     } else {
-        say::number(b": refusal ", answer.refusal);
+        say::number(rt, b": refusal ", answer.refusal);
     }
 }
 
 // Prints the kilometres that a path leads, and its masts.
-fn path(before: &[u8], file: &[u8; LENGTH], km: u32)
+fn path(rt: &impl Print, before: &[u8], file: &[u8; LENGTH], km: u32)
     requires { km ≤ 14 }
 {
-    say::number(before, km);
-    say::text(b" km");
-    masts(file, 1000 * km);
+    say::number(rt, before, km);
+    say::text(rt, b" km");
+    masts(rt, file, 1000 * km);
 }
 
 // A file at 0 m with a hill of `metres` at the second corner, the middle of the path over it.
@@ -46,35 +46,35 @@ fn hill(metres: u32) -> [u8; LENGTH]
 }
 
 // Prints the metres of a hill, and the masts of the path over it.
-fn over(before: &[u8], metres: u32)
+fn over(rt: &impl Print, before: &[u8], metres: u32)
     requires { metres ≤ 8190 }
 {
     let file = hill(metres);
-    say::number(before, metres);
-    say::text(b" m");
-    masts(&file, OVER);
+    say::number(rt, before, metres);
+    say::text(rt, b" m");
+    masts(rt, &file, OVER);
 }
 
 // Prints P11: the masts of two paths over flat ground.
-pub(crate) fn p11() {
+pub(crate) fn p11(rt: &impl Print) {
     let metres = 100;
     let mut file = file::level();
     file::flatten(&mut file, FIRST, metres);
     file::flatten(&mut file, SECOND, metres);
-    say::numbers(b"P11: flat ", metres, b" m ground, limits ", LIMIT);
-    path(b", ", &file, 10);
-    path(b"; ", &file, 1);
-    say::text(b"\n");
+    say::numbers(rt, b"P11: flat ", metres, b" m ground, limits ", LIMIT);
+    path(rt, b", ", &file, 10);
+    path(rt, b"; ", &file, 1);
+    say::text(rt, b"\n");
 }
 
 // Prints P12: N and the masts of a path over the highest hill that masts within the limits clear, and
 // what the next higher one gives.
-pub(crate) fn p12() {
+pub(crate) fn p12(rt: &impl Print) {
     let file = file::level();
     let n = call::profile(&file, point::past_corner(0, 0), point::past_corner(OVER, 0)).n;
-    say::numbers(b"P12: N = ", n, b", dE ", OVER);
-    say::number(b", limits ", LIMIT);
-    over(b", ends at 0 m, middle ", 99);
-    over(b"; middle ", 100);
-    say::text(b"\n");
+    say::numbers(rt, b"P12: N = ", n, b", dE ", OVER);
+    say::number(rt, b", limits ", LIMIT);
+    over(rt, b", ends at 0 m, middle ", 99);
+    over(rt, b"; middle ", 100);
+    say::text(rt, b"\n");
 }

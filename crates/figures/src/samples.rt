@@ -31,35 +31,35 @@ fn profile(east: u32, north: u32) -> ProfileAnswer
 }
 
 // Prints dE, dN and N of the path from the corner to the point `east` and `north` metres past it.
-fn steps(before: &[u8], east: u32, north: u32)
+fn steps(rt: &impl Print, before: &[u8], east: u32, north: u32)
     requires { (east ≤ 7499) × (north ≤ 15499) }
 {
-    say::numbers(before, east, b", dN ", north);
-    say::number(b": N = ", profile(east, north).n);
+    say::numbers(rt, before, east, b", dN ", north);
+    say::number(rt, b": N = ", profile(east, north).n);
 }
 
 // Prints the easting at which the rising ground has this height.
-fn easting(before: &[u8], height: u32) {
-    say::number(before, WEST + height / RISE);
+fn easting(rt: &impl Print, before: &[u8], height: u32) {
+    say::number(rt, before, WEST + height / RISE);
 }
 
 // Prints the eastings of the four samples of the path that leads `east` metres to the east.
-fn samples(east: u32)
+fn samples(rt: &impl Print, east: u32)
     requires { east ≤ 7499 }
 {
     let heights = profile(east, 0).heights;
-    say::numbers(b"; from ", WEST, b" to ", WEST + east);
-    easting(b": ", heights[0]);
-    easting(b", ", heights[1]);
-    easting(b", ", heights[2]);
-    easting(b", ", heights[3]);
+    say::numbers(rt, b"; from ", WEST, b" to ", WEST + east);
+    easting(rt, b": ", heights[0]);
+    easting(rt, b", ", heights[1]);
+    easting(rt, b", ", heights[2]);
+    easting(rt, b", ", heights[3]);
 }
 
 // Prints P9: N of three paths, and the samples of one.
-pub(crate) fn p9() {
-    steps(b"P9: dE ", 1000, 0);
-    steps(b"; dE ", 1001, 0);
-    steps(b"; dE ", 300, 400);
-    samples(1001);
-    say::text(b"\n");
+pub(crate) fn p9(rt: &impl Print) {
+    steps(rt, b"P9: dE ", 1000, 0);
+    steps(rt, b"; dE ", 1001, 0);
+    steps(rt, b"; dE ", 300, 400);
+    samples(rt, 1001);
+    say::text(rt, b"\n");
 }

@@ -50,10 +50,10 @@ fn least_clear() -> u32
 }
 
 // Prints P10: the greatest G of the path, that of its middle sample.
-pub(crate) fn p10() {
+pub(crate) fn p10(rt: &impl Print) {
     let file = ground();
     let n = call::profile(&file, end(0, 0), end(APART, 0)).n;
-    say::numbers(b"P10: Q = ", APART * APART, b", N = ", n);
-    say::numbers(b", i = ", n / 2, b": G = ", 1000 * MAST + least_clear());
-    say::text(b"\n");
+    say::numbers(rt, b"P10: Q = ", APART * APART, b", N = ", n);
+    say::numbers(rt, b", i = ", n / 2, b": G = ", 1000 * MAST + least_clear());
+    say::text(rt, b"\n");
 }

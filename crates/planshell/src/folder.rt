@@ -1,6 +1,13 @@
 // The folder of the terrain files, and the files in it.
 ghost use Rattle.std.specs.Prelude.{◌+◌, ◌≤◌, length as ListN·length};
 
+use std::io::Read;
+use std::rt::Files;
+use std::{fs, io, str};
+
+// The room for a path.
+pub const PATH: usize = 4096;
+
 // The longest name of a folder, so that a slash and a file's name fit after it in a path.
 pub const LONGEST: usize = 4080;
 
@@ -12,35 +19,35 @@ pub struct Loaded {
     pub length: usize,
 }
 
+// Opens a file or a folder for reading. Its path is text in UTF-8, as the standard library takes no other.
+fn open<R: Files>(rt: &R, path: &[u8]) -> io::Result<R::File> {
+    match str::from_utf8(path) {
+        Ok(text) => fs::open(rt, text),
+        Err(_) => Err(io::Error::from(io::ErrorKind::InvalidFilename)),
+    }
+}
+
 // Whether the first `length` bytes of the path name a folder. Leaves a slash after them.
-pub(crate) fn is_folder(path: &mut [u8], length: usize) -> bool
+pub(crate) fn is_folder(rt: &impl Files, path: &mut [u8], length: usize) -> bool
     requires { length + 2 ≤ ListN·length path.old }
 {
     path[length] = b'/';
     path[length + 1] = b'.';
-    let fd = os::open_read(&path[..length + 2]);
-    if fd < 0 {
-        return false;
-    }
-    libc::close(fd);
-    true
+    open(rt, &path[..length + 2]).is_ok()
 }
 
 // Reads a file to its end, or until the room is full.
-fn read_file(fd: i32, room: &mut [u8]) -> Loaded
+fn read_file(file: &mut impl Read, room: &mut [u8]) -> Loaded
     ensures { result.length ≤ ListN·length room.old }
 {
     let mut length = 0;
     while length < room.len() {
-        let rest = &mut room[length..];
-        let got = libc::read(fd, rest);
-        if got < 0 {
+        let Ok(more) = file.read(&mut room[length..]) else {
             return Loaded {
                 readable: false,
                 length: 0,
             };
-        }
-        let more = io::count(got, rest);
+        };
         if more == 0 {
             break;
         }
@@ -53,7 +60,14 @@ fn read_file(fd: i32, room: &mut [u8]) -> Loaded
 }
 
 // Loads the file of a base and a zone into the room. Its name goes after the first `start` bytes of the path.
-pub(crate) fn load(path: &mut [u8], start: usize, base: u32, zone: u32, room: &mut [u8]) -> Loaded
+pub(crate) fn load(
+    rt: &impl Files,
+    path: &mut [u8],
+    start: usize,
+    base: u32,
+    zone: u32,
+    room: &mut [u8],
+) -> Loaded
     requires { start + 4 ≤ ListN·length path.old }
     ensures { result.length ≤ ListN·length room.old }
 {
@@ -63,14 +77,11 @@ pub(crate) fn load(path: &mut [u8], start: usize, base: u32, zone: u32, room: &m
     path[start + 1] = name[1];
     path[start + 2] = name[2];
     path[start + 3] = name[3];
-    let fd = os::open_read(&path[..start + 4]);
-    if fd < 0 {
-        return Loaded {
+    match open(rt, &path[..start + 4]) {
+        Ok(mut file) => read_file(&mut file, room),
+        Err(_) => Loaded {
             readable: false,
             length: 0,
-        };
+        },
     }
-    let loaded = read_file(fd, room);
-    libc::close(fd);
-    loaded
 }

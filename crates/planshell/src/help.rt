@@ -1,8 +1,38 @@
 // What the program says of itself.
-use libc::{PATH_MAX, STDERR_FILENO, STDOUT_FILENO};
+use crate::folder::PATH;
+
+// What lines there are and what each is answered. With the other answers they are a screenful.
+const LINES: [&str; 11] = [
+    "planshell [FOLDER]: plans radio links over the terrain files of a folder.",
+    "",
+    "use NK17                  use 40 17      NK17 is in use: its base and zone",
+    "site FARM 478300 4436750  site 1         so many sites are held, at most 32",
+    "path FARM MILL            path 27 clear  steps of 500 m; clear or blocked",
+    "                                         without masts",
+    "masts FARM MILL 40 30     masts 26 12    the lowest two masts that see each",
+    "                                         other, of at most 40 and 30 m",
+    "",
+    "A name is a capital letter, then up to 11 capitals, digits or hyphens.",
+    "",
+];
+
+// What else is answered.
+const OTHERS: [&str; 11] = [
+    "taken      a site has that name",
+    "full       there are 32 sites",
+    "unknown    no site has that name",
+    "bad 12     the line is wrong from column 12 on",
+    "refused 1  no file is in use; or it is missing, unreadable, longer than 60",
+    "           records or broken off",
+    "refused 3  the file's index is damaged; an earlier file stays in use",
+    "refused 4  a site is not on the file's ground",
+    "refused 5  the ground is not covered    refused 6  a height is missing",
+    "refused 7  the sites are the same, or more than 100 km apart",
+    "refused 8  a limit is above 100 m       refused 9  no two masts are enough",
+];
 
 // Whether the first `length` bytes of the path are `--help`.
-pub(crate) fn is_asked(path: &[u8; PATH_MAX], length: usize) -> bool {
+pub(crate) fn is_asked(path: &[u8; PATH], length: usize) -> bool {
     (length == 6)
         & (path[0] == b'-')
         & (path[1] == b'-')
@@ -12,54 +42,35 @@ pub(crate) fn is_asked(path: &[u8; PATH_MAX], length: usize) -> bool {
         & (path[5] == b'p')
 }
 
-// Writes a line of the help.
-fn line(text: &[u8]) {
-    io::write_all(STDOUT_FILENO, text);
-    io::write_all(STDOUT_FILENO, b"\n");
+// Writes a line of the help, as far as the output takes it.
+fn line(rt: &impl Print, text: &str) {
+    let _ = rt.write_all(text.as_bytes());
+    let _ = rt.write_all(b"\n");
 }
 
 // Shows the lines and the answers, in a screenful.
-pub(crate) fn show() {
-    line(b"planshell [FOLDER]: plans radio links over the terrain files of a folder.");
-    line(b"");
-    line(b"use NK17                  use 40 17      NK17 is in use: its base and zone");
-    line(b"site FARM 478300 4436750  site 1         so many sites are held, at most 32");
-    line(b"path FARM MILL            path 27 clear  steps of 500 m; clear or blocked");
-    line(b"                                         without masts");
-    line(b"masts FARM MILL 40 30     masts 26 12    the lowest two masts that see each");
-    line(b"                                         other, of at most 40 and 30 m");
-    line(b"");
-    line(b"A name is a capital letter, then up to 11 capitals, digits or hyphens.");
-    line(b"");
-    show_others();
+pub(crate) fn show(rt: &impl Print) {
+    for text in LINES {
+        line(rt, text);
+    }
+    show_others(rt);
 }
 
 // Shows the other answers.
-fn show_others() {
-    line(b"taken      a site has that name");
-    line(b"full       there are 32 sites");
-    line(b"unknown    no site has that name");
-    line(b"bad 12     the line is wrong from column 12 on");
-    line(b"refused 1  no file is in use; or it is missing, unreadable, longer than 60");
-    line(b"           records or broken off");
-    line(b"refused 3  the file's index is damaged; an earlier file stays in use");
-    line(b"refused 4  a site is not on the file's ground");
-    line(b"refused 5  the ground is not covered    refused 6  a height is missing");
-    line(b"refused 7  the sites are the same, or more than 100 km apart");
-    line(b"refused 8  a limit is above 100 m       refused 9  no two masts are enough");
+fn show_others(rt: &impl Print) {
+    for text in OTHERS {
+        line(rt, text);
+    }
 }
 
 // Says on standard error that the argument is no folder.
-pub(crate) fn complain(argument: &[u8]) {
-    io::write_all(STDERR_FILENO, b"planshell: no folder: ");
-    io::write_all(STDERR_FILENO, argument);
-    io::write_all(STDERR_FILENO, b"\n");
+pub(crate) fn complain(errors: &impl Print, argument: &[u8]) {
+    let _ = errors.write_all(b"planshell: no folder: ");
+    let _ = errors.write_all(argument);
+    let _ = errors.write_all(b"\n");
 }
 
 // Says on standard error that there are too many arguments.
-pub(crate) fn complain_of_more() {
-    io::write_all(
-        STDERR_FILENO,
-        b"planshell: one folder at most; --help shows the lines\n",
-    );
+pub(crate) fn complain_of_more(errors: &impl Print) {
+    let _ = errors.write_all(b"planshell: one folder at most; --help shows the lines\n");
 }

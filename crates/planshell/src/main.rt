@@ -2,34 +2,55 @@
 // the folder that its first argument names, or from the one that it is run in.
 #![tactic(auto)]
 
+ghost use Rattle.std.specs.Prelude.{◌≡◌, ◌≤◌, length, IfSome};
+
 mod folder;
 mod help;
 mod session;
 
+use std::env::{Env, FillError};
+
+// Puts an argument at the start of the buffer and gives its length, 0 where it is longer than the buffer;
+// `None` where there is no such argument.
+fn argument(rt: &impl Env, i: usize, buf: &mut [u8]) -> Option<usize>
+    ensures bound { IfSome result (λ n. n ≤ length buf.new) }
+    ensures room { length buf.new ≡ length buf.old }
+{
+    match rt.arg(i, buf) {
+        Ok(length) => Some(length),
+        Err(FillError::TooLong) => Some(0),
+        Err(FillError::NotPresent) => None,
+    }
+}
+
+// Whether there is such an argument.
+fn is_given(rt: &impl Env, i: usize) -> bool {
+    let mut first = [0u8; 1];
+    argument(rt, i, &mut first).is_some()
+}
+
 // Runs a session; or shows the help; or says on standard error what is wrong with the arguments.
-fn main() {
-    let mut path = io::buffer();
-    let count = os::arg_count();
-    if count <= 1 {
-        session::serve(&mut path, 0);
+fn main(rt: HostRuntime) {
+    let mut path = [0u8; folder::PATH];
+    let Some(length) = argument(&rt, 1, &mut path) else {
+        session::serve(&rt, &mut rt.stdin(), &mut path, 0);
         return;
-    }
-    let length = os::arg(1, &mut path);
+    };
     if help::is_asked(&path, length) {
-        help::show();
+        help::show(&rt);
         return;
     }
-    if 2 < count {
-        help::complain_of_more();
+    if is_given(&rt, 2) {
+        help::complain_of_more(&rt.stderr());
         return;
     }
     if folder::LONGEST < length || length == 0 {
-        help::complain(&path[..length]);
+        help::complain(&rt.stderr(), &path[..length]);
         return;
     }
-    if !folder::is_folder(&mut path, length) {
-        help::complain(&path[..length]);
+    if !folder::is_folder(&rt, &mut path, length) {
+        help::complain(&rt.stderr(), &path[..length]);
         return;
     }
-    session::serve(&mut path, length + 1);
+    session::serve(&rt, &mut rt.stdin(), &mut path, length + 1);
 }

@@ -5,12 +5,13 @@ ghost use Rattle.std.specs.Prelude.{◌≡◌, ◌+◌, ◌≤◌, length};
 ghost use Rattle.planshell.specs.Room.{AtDesk};
 
 use crate::folder;
-use libc::{STDIN_FILENO, STDOUT_FILENO};
 use shell::answer::Answer;
 use shell::command::{MOST_BYTES, Shell};
 use shell::feed::{Next, PIECE, Step};
 use shell::sites::MOST_SITES;
 use shell::{answer, command, feed};
+use std::io::Read;
+use std::rt::Files;
 
 // The room for a file: one byte more than 60 records, by which a longer one is known. There are two, so that
 // a file can be loaded beside the one in use.
@@ -22,7 +23,7 @@ const SECOND: usize = FILE;
 // Where a session stands: what the shell remembers, the place and the length of the file in use, the end of
 // the input and the place in it, how much of the room for answers is filled, whether the input has ended, and
 // whether the session goes on.
-#[derive(Drop)]
+#[derive(Clone, Copy)]
 struct Desk {
     shell: Shell,
     place: usize,
@@ -35,7 +36,7 @@ struct Desk {
 }
 
 // The answer to a `use`, what the shell then remembers, whether the file passed, and its length.
-#[derive(Drop)]
+#[derive(Clone, Copy)]
 struct Tried {
     answer: Answer,
     shell: Shell,
@@ -79,13 +80,13 @@ fn after(desk: Desk, step: Step) -> Desk
 }
 
 // The session after the answers that wait were written: it goes on where all could be.
-fn flush(desk: Desk, out: &[u8; answer::ROOM]) -> Desk
+fn flush(rt: &impl Print, desk: Desk, out: &[u8; answer::ROOM]) -> Desk
     requires { AtDesk desk }
     ensures { AtDesk result }
 {
     let all = &out[..];
     let filled = desk.filled;
-    let open = io::write_all(STDOUT_FILENO, &all[..filled]);
+    let open = rt.write_all(&all[..filled]).is_ok();
     let mut then = desk;
     then.open = open;
     then.filled = 0;
@@ -94,6 +95,7 @@ fn flush(desk: Desk, out: &[u8; answer::ROOM]) -> Desk
 
 // Tries the file of a base and a zone: it is loaded into the room that is not in use, and checked.
 fn try_file(
+    rt: &impl Files,
     path: &mut [u8],
     start: usize,
     base: u32,
@@ -104,7 +106,7 @@ fn try_file(
     requires { start + 4 ≤ length path.old }
     ensures { result.length ≤ length room.old }
 {
-    let loaded = folder::load(path, start, base, zone, room);
+    let loaded = folder::load(rt, path, start, base, zone, room);
     let length = loaded.length;
     let used = command::on_use(shell, loaded.readable, &room[..length], base, zone);
     let answer = used.answer;
@@ -135,6 +137,7 @@ fn after_use(desk: Desk, shell: Shell, passed: bool, length: usize, filled: usiz
 
 // The session after a `use` of the file of a base and a zone, whose answer waits to be written.
 fn use_file(
+    rt: &impl Files,
     path: &mut [u8],
     start: usize,
     base: u32,
@@ -149,7 +152,7 @@ fn use_file(
 {
     let spare = SECOND - desk.place;
     let room = &mut files[spare..spare + FILE];
-    let tried = try_file(path, start, base, zone, desk.shell, room);
+    let tried = try_file(rt, path, start, base, zone, desk.shell, room);
     let said = tried.answer;
     let filled = answer::say(said, out, desk.filled);
     after_use(desk, tried.shell, tried.passed, tried.length, filled)
@@ -164,22 +167,23 @@ struct Piece {
 }
 
 // Reads a piece of input after what was kept of a line.
-fn read_piece(input: &mut [u8], kept: usize) -> Piece
+fn read_piece(reader: &mut impl Read, input: &mut [u8], kept: usize) -> Piece
     requires { kept ≤ length input.old }
     ensures { result.end ≤ length input.old }
 {
-    let rest = &mut input[kept..];
-    let got = libc::read(STDIN_FILENO, rest);
-    let more = io::count(got, rest);
-    if 0 < more {
-        return Piece {
+    match reader.read(&mut input[kept..]) {
+        Ok(0) => Piece {
+            end: 0,
+            ended: true,
+        },
+        Ok(more) => Piece {
             end: kept + more,
             ended: false,
-        };
-    }
-    Piece {
-        end: 0,
-        ended: got == 0,
+        },
+        Err(_) => Piece {
+            end: 0,
+            ended: false,
+        },
     }
 }
 
@@ -195,11 +199,11 @@ fn closed(desk: Desk) -> Desk
 
 // The next piece of input, read after what was kept of a line, which is ended where the input has ended; its
 // end is 0 where nothing is left, or where the read failed.
-fn next_piece(input: &mut [u8; PIECE], kept: usize) -> Piece
+fn next_piece(reader: &mut impl Read, input: &mut [u8; PIECE], kept: usize) -> Piece
     requires { (length input.old ≡ 65536) × (kept ≤ 48) }
     ensures { (result.end ≤ 65536) × (length input.new ≡ 65536) }
 {
-    let piece = read_piece(input, kept);
+    let piece = read_piece(reader, input, kept);
     if piece.ended {
         return Piece {
             end: feed::end_kept(input, kept),
@@ -211,11 +215,17 @@ fn next_piece(input: &mut [u8; PIECE], kept: usize) -> Piece
 
 // The session after the answers that wait were written and the next piece of input was read. It ends where
 // not all could be written, where the input has ended, and where there is no such piece.
-fn read_on(desk: Desk, input: &mut [u8; PIECE], out: &[u8; answer::ROOM]) -> Desk
+fn read_on(
+    rt: &impl Print,
+    reader: &mut impl Read,
+    desk: Desk,
+    input: &mut [u8; PIECE],
+    out: &[u8; answer::ROOM],
+) -> Desk
     requires { AtDesk desk × (length input.old ≡ 65536) }
     ensures { AtDesk result × (length input.new ≡ 65536) }
 {
-    let mut then = flush(desk, out);
+    let mut then = flush(rt, desk, out);
     if desk.ended {
         return closed(then);
     }
@@ -223,7 +233,7 @@ fn read_on(desk: Desk, input: &mut [u8; PIECE], out: &[u8; answer::ROOM]) -> Des
         return then;
     }
     let kept = feed::keep(input, desk.at, desk.end);
-    let piece = next_piece(input, kept);
+    let piece = next_piece(reader, input, kept);
     then.at = 0;
     then.end = piece.end;
     then.ended = piece.ended;
@@ -233,7 +243,7 @@ fn read_on(desk: Desk, input: &mut [u8; PIECE], out: &[u8; answer::ROOM]) -> Des
 
 // Answers the lines of the input until it ends, a read fails or the output is closed. The files are named
 // after the first `start` bytes of the path. No session uses up the turns.
-pub(crate) fn serve(path: &mut [u8], start: usize)
+pub(crate) fn serve<R: Files + Print>(rt: &R, reader: &mut impl Read, path: &mut [u8], start: usize)
     requires { start + 4 ≤ length path.old }
 {
     let mut input = [0u8; PIECE];
@@ -264,10 +274,10 @@ pub(crate) fn serve(path: &mut [u8], start: usize)
         desk = after(desk, step);
         desk = match next {
             Next::Use(base, zone) => {
-                use_file(path, start, base, zone, desk, &mut files[..], &mut out)
+                use_file(rt, path, start, base, zone, desk, &mut files[..], &mut out)
             }
-            Next::More => read_on(desk, &mut input, &out),
-            Next::Full => flush(desk, &out),
+            Next::More => read_on(rt, reader, desk, &mut input, &out),
+            Next::Full => flush(rt, desk, &out),
         };
     }
 }

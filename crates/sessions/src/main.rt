@@ -3,22 +3,41 @@
 // lots of answers, which are the same, so that a wrong program of those libraries is seen by what it answers.
 #![tactic(auto)]
 
+ghost use Rattle.std.specs.Prelude.{◌≤◌, length};
+
 mod file;
 mod session;
 
-use libc::{STDIN_FILENO, STDOUT_FILENO};
 use session::MOST_TEXT;
 use shell::answer;
+use std::io::Read;
 
 // The bytes left for answers in the second session: three of the longest, and some more.
 const LITTLE: usize = 60;
 
+// Reads until the room is full, the input ends or a read fails, and gives how many bytes were read.
+fn read_full(input: &mut impl Read, room: &mut [u8]) -> usize
+    ensures { result ≤ length room.new }
+{
+    let mut length = 0;
+    while length < room.len() {
+        let Ok(more) = input.read(&mut room[length..]) else {
+            break;
+        };
+        if more == 0 {
+            break;
+        }
+        length += more;
+    }
+    length
+}
+
 // Prints the answers of both sessions, with a line between them.
-fn main() {
+fn main(rt: HostRuntime) {
     let mut room = [0u8; MOST_TEXT];
-    let count = io::read_full(STDIN_FILENO, &mut room);
+    let count = read_full(&mut rt.stdin(), &mut room);
     let text = &room[..count];
-    session::run(text, MOST_TEXT, 0);
-    io::write_all(STDOUT_FILENO, b"--\n");
-    session::run(text, 1, answer::ROOM - LITTLE);
+    session::run(&rt, text, MOST_TEXT, 0);
+    let _ = rt.write_all(b"--\n");
+    session::run(&rt, text, 1, answer::ROOM - LITTLE);
 }

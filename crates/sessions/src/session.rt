@@ -3,7 +3,6 @@ ghost use Rattle.std.specs.Prelude.{◌≡◌, ◌+◌, ◌-◌, ◌≤◌, leng
 ghost use Rattle.sessions.specs.Room.{AtDesk};
 
 use crate::file;
-use libc::STDOUT_FILENO;
 use shell::command::Shell;
 use shell::feed::{Next, PIECE, Step};
 use shell::sites::MOST_SITES;
@@ -22,7 +21,7 @@ const TURNS: u32 = 100000;
 // Where a session stands: what the shell remembers, and the length of the file in use; the place in the text
 // and the size of the next piece; the place in the input and its end; how many bytes of the room for answers
 // are left alone and how many are filled; and whether the session goes on.
-#[derive(Drop)]
+#[derive(Clone, Copy)]
 struct Desk {
     shell: Shell,
     length: usize,
@@ -68,7 +67,7 @@ fn after(desk: Desk, step: Step) -> Desk
 }
 
 // The session after the answers that wait were printed.
-fn flush(desk: Desk, out: &[u8; answer::ROOM]) -> Desk
+fn flush(rt: &impl Print, desk: Desk, out: &[u8; answer::ROOM]) -> Desk
     requires { AtDesk desk }
     ensures { AtDesk result × (result.from ≡ desk.from) }
 {
@@ -76,7 +75,7 @@ fn flush(desk: Desk, out: &[u8; answer::ROOM]) -> Desk
     let first = desk.first;
     let filled = desk.filled;
     if first <= filled {
-        io::write_all(STDOUT_FILENO, &all[first..filled]);
+        let _ = rt.write_all(&all[first..filled]);
     }
     let mut then = desk;
     then.filled = first;
@@ -154,7 +153,7 @@ fn read_on(text: &[u8], desk: Desk, input: &mut [u8; PIECE]) -> Desk
 // Answers the lines of a text, and prints the answers. The text comes in pieces: the first of `size` bytes,
 // and the others of one byte more each time, from 1 to 7 and over again. The answers wait in the room after
 // its first bytes, which are left alone.
-pub(crate) fn run(text: &[u8], size: usize, first: usize)
+pub(crate) fn run(rt: &impl Print, text: &[u8], size: usize, first: usize)
     requires { (length text.now ≤ 8192) × (first ≤ 65536) }
 {
     let mut input = [0u8; PIECE];
@@ -185,8 +184,8 @@ pub(crate) fn run(text: &[u8], size: usize, first: usize)
         desk = match next {
             Next::Use(base, zone) => use_file(base, zone, desk, &mut file[..], &mut out),
             Next::More => read_on(text, desk, &mut input),
-            Next::Full => flush(desk, &out),
+            Next::Full => flush(rt, desk, &out),
         };
     }
-    flush(desk, &out);
+    flush(rt, desk, &out);
 }
