@@ -1,5 +1,5 @@
 -- The answers of the plan shell. Document 02, request e), "Output, one line each". Bytes are ASCII. Assumes nothing.
-use Rattle.std.specs.Prelude.{Bool, true, false, cond, List, [], ◌∷◌, ◌++◌, ℕ, ◌+◌, ◌/◌, ◌%◌, ltb}
+use Rattle.std.specs.Prelude.{cond, List, [], ◌∷◌, ◌++◌, ℕ, ◌+◌, ◌/◌, ◌%◌, ltb}
 use Rattle.lines.specs.Spell.{ascii, use·word, site·word, path·word, masts·word}
 use Rattle.shell.specs.declared.answer.Answer.{Answer}
 use Rattle.shell.specs.declared.answer.Answer.TheVariants.{Used, Held, Seen, Planned, Taken, Full, Unknown, Refused, Bad}

@@ -3,7 +3,7 @@
 use Rattle.std.specs.Prelude.{◌≡◌, Bool, true, false, cond, List, [], ◌∷◌, ◌++◌, ℕ, ◌+◌, ◌-◌, ◌≤◌, ◌<◌, eqb, length, take, drop, get_or}
 use Rattle.ground.specs.Measure.{metres}
 use Rattle.ground.specs.declared.point.Point.{Point}
-use Rattle.lines.specs.Spell.{Command, «use», site, path, masts, is_name}
+use Rattle.lines.specs.Spell.{«use», site, path, masts, is_name}
 use Rattle.lines.specs.Line.{Reading, legal, bad, reading}
 use Rattle.lines.specs.Key.{key, keyed}
 use Rattle.lines.specs.declared.Line.{Line}

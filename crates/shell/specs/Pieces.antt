@@ -2,8 +2,7 @@
 -- than the longest legal line has. That the output is that of the whole input is shown in proofs/Laws/Pieces.antt. Document 02, request e). Assumes nothing.
 use Rattle.std.specs.Prelude.{cond, List, [], ◌∷◌, ◌++◌, ℕ, eqb, take}
 use Rattle.lines.specs.Line.{reading}
-use Rattle.shell.specs.Answer.{said}
-use Rattle.shell.specs.Session.{State, Folder, Reply, start, answered, answers, lines_from}
+use Rattle.shell.specs.Session.{State, Folder, answered, answers, lines_from}
 
 -- one byte more than the longest legal line
 abbrev pub most_kept : ℕ

@@ -7,7 +7,7 @@ use Rattle.terrain.specs.Check.{checked}
 use Rattle.masts.specs.declared.Masts.{Masts}
 use Rattle.link.specs.Clear.{Sight, sight}
 use Rattle.plan.specs.Plan.{plan}
-use Rattle.lines.specs.Spell.{Command, «use», site, path, masts}
+use Rattle.lines.specs.Spell.{«use», site, path, masts}
 use Rattle.lines.specs.Line.{Reading, legal, bad, reading}
 use Rattle.shell.specs.Answer.{said}
 use Rattle.shell.specs.declared.answer.Answer.{Answer}

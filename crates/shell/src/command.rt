@@ -15,7 +15,7 @@ pub const MOST_BYTES: usize = 61440;
 
 // What the shell remembers beside the lists of sites and the bytes of the file in use: how many sites
 // there are, whether a file is in use, and the base and zone of its name.
-#[derive(Drop)]
+#[derive(Clone, Copy)]
 pub struct Shell {
     pub count: usize,
     pub used: bool,
@@ -24,7 +24,7 @@ pub struct Shell {
 }
 
 // An answer, and what the shell then remembers.
-#[derive(Drop)]
+#[derive(Clone, Copy)]
 pub struct Reply {
     pub answer: Answer,
     pub shell: Shell,
@@ -32,7 +32,7 @@ pub struct Reply {
 
 // The answer to a `use`, what the shell then remembers, and whether the new file takes the place of the
 // earlier one.
-#[derive(Drop)]
+#[derive(Clone, Copy)]
 pub struct Used {
     pub passed: bool,
     pub answer: Answer,

@@ -26,7 +26,7 @@ pub enum Next {
 
 // How far the lines of an input are answered: why no further, the place of the next line, how many bytes of
 // the room for answers are filled, and what the shell remembers.
-#[derive(Drop)]
+#[derive(Clone, Copy)]
 pub struct Step {
     pub next: Next,
     pub at: usize,

@@ -1,9 +1,8 @@
 -- The lines of an input that were answered so far, from a place on: what was written and what is held after them, none, one more, and where they stop. From the
 -- laws of the lines of a piece and of what is written. Assumes nothing.
-use mathlib.Core.Path.{◌≡◌, refl, sym, ◌∙◌, ap}
+use mathlib.Core.Path.{◌≡◌, refl, sym, ◌∙◌}
 use mathlib.Core.List.{List, [], ◌∷◌, ◌++◌, append_assoc, append-nil}
 use Prim.Native.Nat.{ℕ, ◌+◌, ◌≤◌, ◌<◌}
-use native.Mathlib.Omega.{arith}
 use lib.ListN.{length, drop}
 use Rattle.lines.specs.Spell.{«use»}
 use Rattle.lines.specs.Line.{legal, reading}

@@ -1,7 +1,6 @@
 -- The lines of a piece of input, one by one: the first line that a line feed ends is the first of those that are ended, and the others follow it. Which lines
 -- `answer_lines` has answered after each turn, and what the shell then says and remembers. From the definitions of specs/Pieces.antt. Assumes nothing.
 use mathlib.Core.Path.{◌≡◌, refl, sym, ◌∙◌, ap}
-use mathlib.Core.Logic.{◌⊎◌, inl, inr, ⊎_elim}
 use mathlib.Core.Bool.{Bool, true, false, cond}
 use mathlib.Core.List.{List, [], ◌∷◌, ◌++◌, append_assoc, append-nil}
 use Prim.Native.Nat.{ℕ, zero, suc, ◌+◌, ◌-◌, ◌≤◌, ◌<◌}
@@ -11,7 +10,7 @@ use lib.ListN.{length, take, drop, length-drop}
 use lib.Seq.{drop-drop, take-nil}
 use Rattle.lines.specs.Text.{first_line, line_at}
 use Rattle.lines.specs.Line.{reading}
-use Rattle.shell.specs.Session.{State, Folder, answered, answers}
+use Rattle.shell.specs.Session.{State, Folder, answered}
 use Rattle.shell.specs.Pieces.{ended_from, left_from, after}
 
 -- the first line feed of some bytes ends a line, which begins with those before

@@ -29,7 +29,6 @@ use Rattle.plan.specs.Plan.{plan, plan_answer, Plan}
 use Rattle.plan.proofs.Laws.Plan.{plan_is}
 use Rattle.plan.specs.declared.PlanAnswer.{PlanAnswer}
 use Rattle.shell.specs.Session.{seen, planned}
-use Rattle.shell.specs.declared.answer.Answer.{Answer}
 use Rattle.shell.specs.declared.answer.Answer.TheVariants as answer
 
 -- an outcome that is, where it is a refusal, one with a number from 1 to 9
