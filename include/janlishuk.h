@@ -43,9 +43,9 @@
  * Surface codes: 0 unknown, 1 trees, 2 bare, 3 fresh water, 4 suburban, 5 marsh, 6 sea water, 7 urban. Where the corners around a
  * point have several, its code is the one whose corners weigh most together, and of two that weigh the same the smaller.
  *
- * The library is x86-64 code, for x86-64-v2 processors, with the System V calling convention. A call needs less than 8 KB of stack and, of the C library, memcpy
- * and memset. Its doubles are those of the rounding mode that a C program starts with; a caller that has changed it gets other last
- * digits. */
+ * The library is x86-64 code, for processors of x86-64-v2, with the System V calling convention. A call needs less than 8 KB of stack
+ * and, of the C library, memcpy and memset. Its doubles are those of the rounding mode that a C program starts with; a caller that has
+ * changed it gets other last digits. */
 #ifndef JANLISHUK_H
 #define JANLISHUK_H
 
