@@ -1,4 +1,5 @@
 // What is printed: a word and a row of numbers to a line.
+
 // What stands for metres or a share other than the one expected.
 const OTHER: u32 = 999999;
 

@@ -1,4 +1,5 @@
 // What is printed: texts, numbers, and metres with one decimal place.
+
 // Prints the text, as far as the output takes it.
 pub(crate) fn text(rt: &impl Print, text: &[u8]) {
     let _ = rt.write_all(text);

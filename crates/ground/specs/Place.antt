@@ -51,7 +51,7 @@ place_at east north fx fy =
       weights = weights_of fx fy;
     }
 
--- With x = E / 500, y = N / 500 truncated, a point lies x - 250 units east and y - y_b units north of the corner, and fx, fy metres past that.
+-- With x = E / 500, y = N / 500 truncated, a point lies x - 250 units east and y - yB units north of the corner, and fx, fy metres past that.
 unfoldable pub place_of : Ground → Point → Place
 place_of g p =
     place_at

@@ -34,8 +34,8 @@ use Rattle.path.specs.Path.{Q, N, path_of, sample, farthest, tallest}
 use Rattle.path.proofs.Laws.Path.{farthest_is}
 use Rattle.janlishuk.specs.Order.{Line, FirstOf, IsNamed, OnGround, placed, of_file, of_name, of_northing, of_point, of_ends, of_masts, of_row, of_samples, of_pairs, of_reading, of_spot, of_upload, of_taking, of_profile, of_verdict, of_plan, of_engine_row}
 
--- "With x = E / 500, y = N / 500 truncated: Iy = (y - y_b) / 31, Ix = (x - 250) / 15, rectangle n = 100 Iy + Ix. In it wx = x - 250 - 15 Ix,
--- wy = y - y_b - 31 Iy, word w = 16 wy + wx + 1. The corners are words w, w+1, w+16, w+17." "fx = E mod 500, fy = N mod 500. Weights: SW (500-fx)(500-fy),
+-- "With x = E / 500, y = N / 500 truncated: Iy = (y - yB) / 31, Ix = (x - 250) / 15, rectangle n = 100 Iy + Ix. In it wx = x - 250 - 15 Ix,
+-- wy = y - yB - 31 Iy, word w = 16 wy + wx + 1. The corners are words w, w+1, w+16, w+17." "fx = E mod 500, fy = N mod 500. Weights: SW (500-fx)(500-fy),
 -- SE fx(500-fy), NW (500-fx)fy, NE fx fy."
 module _ (b z : ℕ) (p : Point) where
   abbrev x : ℕ

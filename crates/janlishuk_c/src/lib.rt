@@ -42,8 +42,9 @@ pub extern "C" fn janlishuk_read(file: &[u8], base: u32, zone: u32, point: Point
     janlishuk::janlishuk_read(file, base, zone, point)
 }
 
-// The exact height in 1/250,000 m and the surface code of a point, or refusal 1 to 6, without a check of the
-// whole index.
+// The exact height in 1/250,000 m and the surface code of a point, or refusal 1 to 6, as `janlishuk_read`;
+// but of the index only M and the entries of the rectangles that the point may be read from, up to the
+// first that is not 0, are looked at.
 #[unsafe(no_mangle)]
 pub extern "C" fn janlishuk_spot(file: &[u8], base: u32, zone: u32, point: Point) -> ReadAnswer
     ensures { Spots file.entry.now file.exit.now base zone point result }
@@ -51,7 +52,8 @@ pub extern "C" fn janlishuk_spot(file: &[u8], base: u32, zone: u32, point: Point
     janlishuk::janlishuk_spot(file, base, zone, point)
 }
 
-// Reads the points of a survey into the lists that are lent; or refusal 1, 2, 3 or 10, and nothing is written.
+// Reads the points of a survey in the file's zone, at most 256, each as `janlishuk_read` does, and writes
+// heights, codes and refusals into the lists; or refusal 1, 2, 3 or 10, and nothing is written.
 #[unsafe(no_mangle)]
 pub extern "C" fn janlishuk_upload(
     file: &[u8],
@@ -73,7 +75,7 @@ pub extern "C" fn janlishuk_upload(
     )
 }
 
-// The point as the engine takes it, or refusal 1 to 6.
+// The point as the engine takes it, in a struct, or refusal 1 to 6.
 #[unsafe(no_mangle)]
 pub extern "C" fn janlishuk_engine_point(
     file: &[u8],
@@ -116,7 +118,8 @@ pub extern "C" fn janlishuk_verdict(
     janlishuk::janlishuk_verdict(file, base, zone, first, second, a, b)
 }
 
-// The least masts of at most la and lb metres that make the path clear; or refusal 1 to 9.
+// The masts, of at most la and lb metres, that make the path clear, with the least sum and, of those,
+// the lowest first mast; or refusal 1 to 9.
 #[unsafe(no_mangle)]
 pub extern "C" fn janlishuk_plan(
     file: &[u8],

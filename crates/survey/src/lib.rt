@@ -92,8 +92,8 @@ fn read_each(
 )
     requires { Gave file.now terrain × (unfit (five_lists eastings.now northings.now heights.old codes.old refusals.old) ≡ false) }
     ensures { HasAnswers file.now terrain
-        (five_lists eastings.now northings.now heights.old codes.old refusals.old)
-        (five_lists eastings.now northings.now heights.new codes.new refusals.new) }
+        (five_lists eastings.entry.now northings.entry.now heights.old codes.old refusals.old)
+        (five_lists eastings.exit.now northings.exit.now heights.new codes.new refusals.new) }
 {
     let ground = terrain.ground;
     for i in 0..eastings.len() {
@@ -115,8 +115,8 @@ pub fn upload(
     refusals: &mut [u8],
 ) -> UploadAnswer
     ensures { Uploaded file.now base zone
-        (five_lists eastings.now northings.now heights.old codes.old refusals.old)
-        (five_lists eastings.now northings.now heights.new codes.new refusals.new)
+        (five_lists eastings.entry.now northings.entry.now heights.old codes.old refusals.old)
+        (five_lists eastings.exit.now northings.exit.now heights.new codes.new refusals.new)
         result }
 {
     let unfit = are_unfit(
