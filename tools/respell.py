@@ -1,5 +1,5 @@
 #!/usr/bin/env python3
-"""Respells the names that crates/*/specs and crates/*/proofs define: camel case becomes snake case, a dash that joins plain words an underscore.
+"""Respells the names that crates/*/specs and crates/*/proofs define: camel case becomes snake case, a dash or a middle dot between words an underscore.
 
 Run once, at the top of the repository, right after the toolchain's port.py. It prints each name with its new spelling, and names that would fall
 together. Names of Rattle sources, of types and of modules stay as they are, and so do strings, inputs and outputs.
@@ -13,6 +13,7 @@ NAME = re.compile(r"[^\s(){}\[\].;,:|◌\"`→λ⊢=]+")
 CAMEL = re.compile(r"^[a-zα-ω][a-z0-9_]*(?:[A-Z]+[a-z0-9₀-₉_]*)+['′]?$")
 DASHED = re.compile(r"^[^\W\d_][\w'≤≡≢ℕ]*(?:-[\w'≤≡≢ℕ]+)+$")
 HEAD = re.compile(r"^\s*(?:(?:abbrev|unfoldable|pub|unfold|private|infix[lr]?\s+\d+)\s+)*(?P<name>[^\s(){}.;,\"]+)(?=\s[^=]*?:\s|\s*:\s)")
+DOTTED = re.compile(r"(?<=[a-z_])·(?=[a-z])")
 # Names of Rattle's own making, in a function's proof.
 MADE = re.compile(r"/proofs/(?:.*/)?(?:Proof|Answers|Invariants)\.antt$")
 # A lemma whose new name a definition has, and a definition whose new name a lemma has: the lemma gets _lem.
@@ -82,6 +83,8 @@ def main():
             turned = re.sub(r"`[^`\n]+`", lambda it: NAME.sub(lambda n: respelled(n[0]) if n[0] in defined else n[0], it[0]), text)
         else:
             turned = NAME.sub(lambda it: respelled(it[0]) if it[0] in defined else it[0], text)
+        if file not in pages:
+            turned = DOTTED.sub("_", turned.replace("ListN·length", "list_length"))
         if turned != text:
             open(file, "w", encoding="utf-8").write(turned)
 

@@ -60,17 +60,17 @@ pub record Numeral (n : ℕ) (w : List ℕ) : Type 0 where
   pub says : value w ≡ n
 
 -- the words that lines begin with, each with the space after it
-abbrev pub use·word : List ℕ
-use·word = ascii "use "
+abbrev pub use_word : List ℕ
+use_word = ascii "use "
 
-abbrev pub site·word : List ℕ
-site·word = ascii "site "
+abbrev pub site_word : List ℕ
+site_word = ascii "site "
 
-abbrev pub path·word : List ℕ
-path·word = ascii "path "
+abbrev pub path_word : List ℕ
+path_word = ascii "path "
 
-abbrev pub masts·word : List ℕ
-masts·word = ascii "masts "
+abbrev pub masts_word : List ℕ
+masts_word = ascii "masts "
 
 -- two words with a single space (32) between them
 infixr 5 ◌␣◌
@@ -80,7 +80,7 @@ v ␣ w = v ++ (32 ∷ w)
 -- These bytes spell the `use` of the file of a base and a zone: NAME4 is a file name as in document 01.
 pub record SpellsUse (base zone : ℕ) (line : List ℕ) : Type 0 where
   pub file : named base zone ≡ true
-  pub is : line ≡ use·word ++ name_of base zone
+  pub is : line ≡ use_word ++ name_of base zone
 
 -- these bytes spell a site: its name, its easting e and its northing n
 pub record SpellsSite (name : List ℕ) (easting northing : ℕ) (line : List ℕ) : Type 0 where
@@ -89,13 +89,13 @@ pub record SpellsSite (name : List ℕ) (easting northing : ℕ) (line : List �
   pub named : is_name name ≡ true
   pub east : Numeral easting e
   pub north : Numeral northing n
-  pub is : line ≡ site·word ++ (name ␣ e ␣ n)
+  pub is : line ≡ site_word ++ (name ␣ e ␣ n)
 
 -- these bytes spell the path between two sites
 pub record SpellsPath (first second line : List ℕ) : Type 0 where
   pub named : is_name first ≡ true
   pub other : is_name second ≡ true
-  pub is : line ≡ path·word ++ (first ␣ second)
+  pub is : line ≡ path_word ++ (first ␣ second)
 
 -- these bytes spell the masts of two sites, with the limits la and lb
 pub record SpellsMasts (first second : List ℕ) (a b : ℕ) (line : List ℕ) : Type 0 where
@@ -105,7 +105,7 @@ pub record SpellsMasts (first second : List ℕ) (a b : ℕ) (line : List ℕ) :
   pub other : is_name second ≡ true
   pub limit : Numeral a la
   pub limit2 : Numeral b lb
-  pub is : line ≡ masts·word ++ (first ␣ second ␣ la ␣ lb)
+  pub is : line ≡ masts_word ++ (first ␣ second ␣ la ␣ lb)
 
 -- these bytes spell the command
 abbrev pub Spells : Command → List ℕ → Type 0

@@ -1,5 +1,5 @@
 // The folder of the terrain files, and the files in it.
-ghost use Rattle.std.specs.Prelude.{◌+◌, ◌≤◌, length as ListN·length};
+ghost use Rattle.std.specs.Prelude.{◌+◌, ◌≤◌, length as list_length};
 
 use std::io::Read;
 use std::rt::Files;
@@ -29,7 +29,7 @@ fn open<R: Files>(rt: &R, path: &[u8]) -> io::Result<R::File> {
 
 // Whether the first `length` bytes of the path name a folder. Leaves a slash after them.
 pub(crate) fn is_folder(rt: &impl Files, path: &mut [u8], length: usize) -> bool
-    requires { length + 2 ≤ ListN·length path.old }
+    requires { length + 2 ≤ list_length path.old }
 {
     path[length] = b'/';
     path[length + 1] = b'.';
@@ -38,7 +38,7 @@ pub(crate) fn is_folder(rt: &impl Files, path: &mut [u8], length: usize) -> bool
 
 // Reads a file to its end, or until the room is full.
 fn read_file(file: &mut impl Read, room: &mut [u8]) -> Loaded
-    ensures { result.length ≤ ListN·length room.old }
+    ensures { result.length ≤ list_length room.old }
 {
     let mut length = 0;
     while length < room.len() {
@@ -68,8 +68,8 @@ pub(crate) fn load(
     zone: u32,
     room: &mut [u8],
 ) -> Loaded
-    requires { start + 4 ≤ ListN·length path.old }
-    ensures { result.length ≤ ListN·length room.old }
+    requires { start + 4 ≤ list_length path.old }
+    ensures { result.length ≤ list_length room.old }
 {
     let answer = ground::name::file_name(base, zone);
     let name = answer.name;

@@ -18,7 +18,7 @@ use Rattle.shell.specs.declared.command.Used.{Used}
 use Rattle.shell.specs.declared.command.Ends.{Ends}
 use Rattle.shell.specs.declared.command.Ends.TheVariants as ends
 use Rattle.shell.specs.declared.feed.Step.{Step}
-use Rattle.shell.specs.declared.feed.Next as next·type
+use Rattle.shell.specs.declared.feed.Next as next_type
 use Rattle.shell.specs.declared.feed.Next.TheVariants as next
 
 -- the three lists of sites
@@ -131,7 +131,7 @@ Replies line shell file before after r =
 
 -- Why the lines of an input are answered no further, and what is then left of those that are ended: a `use`, for whose answer there is room, and those from
 -- the place on; none, and none is ended from the place on; or, where there is no room for an answer, those from the place on.
-abbrev pub Stops : next·type.Next → List ℕ → Step → List (List ℕ) → Type 0
+abbrev pub Stops : next_type.Next → List ℕ → Step → List (List ℕ) → Type 0
 Stops (next.Use base zone) input r rest =
     (r.filled ≤ 65519) × ((line : List ℕ) × ((reading line ≡ legal («use» base zone)) × (rest ≡ line ∷ ended_from [] (drop r.at input))))
 Stops next.More input r rest = (rest ≡ []) × (ended_from [] (drop r.at input) ≡ [])

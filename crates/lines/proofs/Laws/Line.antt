@@ -12,7 +12,7 @@ use lib.Dec.{leb, eqb}
 use lib.ListN.{length, take, drop, get_or, length-append, get_or-append}
 use lib.Seq.{split_at, take-suc, take-length, take-take, take-append-le, get_or-take, length-take-le}
 use borrow.Author.Tests.{leb-true, eqb-true, eq-eqb, ne_eqb}
-use Rattle.lines.specs.Spell.{Command, «use», site, path, masts, capital, digit, in_name, all, is_name, is_number, use·word, site·word, path·word, masts·word, Spells, Legal}
+use Rattle.lines.specs.Spell.{Command, «use», site, path, masts, capital, digit, in_name, all, is_name, is_number, use_word, site_word, path_word, masts_word, Spells, Legal}
 use Rattle.lines.specs.Bad.{Begins, BadAfter}
 use Rattle.lines.specs.Line.{Part, part, stopped, command, Reading, legal, bad, ended, reading}
 use Rattle.lines.proofs.Laws.Reader.{size}
@@ -217,14 +217,14 @@ cut line more h =
 
 -- the word that a command begins with
 abbrev pub word_of : Command → List ℕ
-word_of («use» base zone) = use·word
-word_of (site name easting northing) = site·word
-word_of (path first second) = path·word
-word_of (masts first second a b) = masts·word
+word_of («use» base zone) = use_word
+word_of (site name easting northing) = site_word
+word_of (path first second) = path_word
+word_of (masts first second a b) = masts_word
 
 -- the word that begins with a byte
 abbrev word_from : ℕ → List ℕ
-word_from b = cond (eqb b 117) use·word (cond (eqb b 115) site·word (cond (eqb b 112) path·word masts·word))
+word_from b = cond (eqb b 117) use_word (cond (eqb b 115) site_word (cond (eqb b 112) path_word masts_word))
 
 -- a word is known by its first byte
 by_first : (c : Command) (rest : List ℕ) → word_of c ≡ word_from (get_or (word_of c ++ rest) 0 0)

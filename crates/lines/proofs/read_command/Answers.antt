@@ -26,21 +26,21 @@ record Starts (b : ℕ) (w : List ℕ) (rest : List ℕ → Part Command) : Type
   first : is_first b ≡ true
   after : (l : List ℕ) → (text w then λ v. rest) l ≡ after_first b l
 
-use·starts : Starts 117 (115 ∷ 101 ∷ 32 ∷ []) use_rest
+use_starts : Starts 117 (115 ∷ 101 ∷ 32 ∷ []) use_rest
 unfolding after_first
-use·starts = record { first = refl; after = λ l. refl }
+use_starts = record { first = refl; after = λ l. refl }
 
-site·starts : Starts 115 (105 ∷ 116 ∷ 101 ∷ 32 ∷ []) site_rest
+site_starts : Starts 115 (105 ∷ 116 ∷ 101 ∷ 32 ∷ []) site_rest
 unfolding after_first
-site·starts = record { first = refl; after = λ l. refl }
+site_starts = record { first = refl; after = λ l. refl }
 
-path·starts : Starts 112 (97 ∷ 116 ∷ 104 ∷ 32 ∷ []) path_rest
+path_starts : Starts 112 (97 ∷ 116 ∷ 104 ∷ 32 ∷ []) path_rest
 unfolding after_first
-path·starts = record { first = refl; after = λ l. refl }
+path_starts = record { first = refl; after = λ l. refl }
 
-masts·starts : Starts 109 (97 ∷ 115 ∷ 116 ∷ 115 ∷ 32 ∷ []) masts_rest
+masts_starts : Starts 109 (97 ∷ 115 ∷ 116 ∷ 115 ∷ 32 ∷ []) masts_rest
 unfolding after_first
-masts·starts = record { first = refl; after = λ l. refl }
+masts_starts = record { first = refl; after = λ l. refl }
 
 abbrev bytes : After-byte_at-first → List ℕ
 bytes c = c.args.s.now
@@ -77,7 +77,7 @@ overflow_add-from-then-first-eq117 c = omega (arith, inside (goal.at.overflow_ad
 
 pub returns-then-at-from : goal.returns-then-at-from
 returns-then-at-from c =
-    misspelled use·starts (goal.at.returns-then-at-from c).After-byte_at-first c.if-first-eq117.true _ c.after_word-at.ensures c.if-at-from.true c.wrong.ensures
+    misspelled use_starts (goal.at.returns-then-at-from c).After-byte_at-first c.if-first-eq117.true _ c.after_word-at.ensures c.if-at-from.true c.wrong.ensures
 
 pub overflow_add-from-then-first-eq115 : goal.overflow_add-from-then-first-eq115
 overflow_add-from-then-first-eq115 c = omega (arith, inside (goal.at.overflow_add-from-then-first-eq115 c).After-byte_at-first (λ e. omega arith))
@@ -87,7 +87,7 @@ overflow_add-from-then-first-eq115-2 c = omega (arith, inside (goal.at.overflow_
 
 pub returns-then-at-from-2 : goal.returns-then-at-from-2
 returns-then-at-from-2 c =
-    misspelled site·starts (goal.at.returns-then-at-from-2 c).After-byte_at-first c.if-first-eq115.true _ c.after_word-at-then-first-eq115.ensures c.if-at-from-2.true c.wrong-then-at-from-2.ensures
+    misspelled site_starts (goal.at.returns-then-at-from-2 c).After-byte_at-first c.if-first-eq115.true _ c.after_word-at-then-first-eq115.ensures c.if-at-from-2.true c.wrong-then-at-from-2.ensures
 
 pub overflow_add-from-then-first-eq112 : goal.overflow_add-from-then-first-eq112
 overflow_add-from-then-first-eq112 c = omega (arith, inside (goal.at.overflow_add-from-then-first-eq112 c).After-byte_at-first (λ e. omega arith))
@@ -97,7 +97,7 @@ overflow_add-from-then-first-eq112-2 c = omega (arith, inside (goal.at.overflow_
 
 pub returns-then-at-from-3 : goal.returns-then-at-from-3
 returns-then-at-from-3 c =
-    misspelled path·starts (goal.at.returns-then-at-from-3 c).After-byte_at-first c.if-first-eq112.true _ c.after_word-at-then-first-eq112.ensures c.if-at-from-3.true c.wrong-then-at-from-3.ensures
+    misspelled path_starts (goal.at.returns-then-at-from-3 c).After-byte_at-first c.if-first-eq112.true _ c.after_word-at-then-first-eq112.ensures c.if-at-from-3.true c.wrong-then-at-from-3.ensures
 
 pub overflow_add-from-then-first-eq109 : goal.overflow_add-from-then-first-eq109
 overflow_add-from-then-first-eq109 c = omega (arith, inside (goal.at.overflow_add-from-then-first-eq109 c).After-byte_at-first (λ e. omega arith))
@@ -107,23 +107,23 @@ overflow_add-from-then-first-eq109-2 c = omega (arith, inside (goal.at.overflow_
 
 pub returns-then-at-from-4 : goal.returns-then-at-from-4
 returns-then-at-from-4 c =
-    misspelled masts·starts (goal.at.returns-then-at-from-4 c).After-byte_at-first c.if-first-eq109.true _ c.after_word-at-then-first-eq109.ensures c.if-at-from-4.true c.wrong-then-at-from-4.ensures
+    misspelled masts_starts (goal.at.returns-then-at-from-4 c).After-byte_at-first c.if-first-eq109.true _ c.after_word-at-then-first-eq109.ensures c.if-at-from-4.true c.wrong-then-at-from-4.ensures
 
 pub returns-else-at-from : goal.returns-else-at-from
 returns-else-at-from c =
-    spelled use·starts (goal.at.returns-else-at-from c).After-byte_at-first c.if-first-eq117.true _ c.after_word-at.ensures c.if-at-from.false c.read_use.ensures
+    spelled use_starts (goal.at.returns-else-at-from c).After-byte_at-first c.if-first-eq117.true _ c.after_word-at.ensures c.if-at-from.false c.read_use.ensures
 
 pub returns-else-at-from-2 : goal.returns-else-at-from-2
 returns-else-at-from-2 c =
-    spelled site·starts (goal.at.returns-else-at-from-2 c).After-byte_at-first c.if-first-eq115.true _ c.after_word-at-then-first-eq115.ensures c.if-at-from-2.false c.read_site.ensures
+    spelled site_starts (goal.at.returns-else-at-from-2 c).After-byte_at-first c.if-first-eq115.true _ c.after_word-at-then-first-eq115.ensures c.if-at-from-2.false c.read_site.ensures
 
 pub returns-else-at-from-3 : goal.returns-else-at-from-3
 returns-else-at-from-3 c =
-    spelled path·starts (goal.at.returns-else-at-from-3 c).After-byte_at-first c.if-first-eq112.true _ c.after_word-at-then-first-eq112.ensures c.if-at-from-3.false c.read_path.ensures
+    spelled path_starts (goal.at.returns-else-at-from-3 c).After-byte_at-first c.if-first-eq112.true _ c.after_word-at-then-first-eq112.ensures c.if-at-from-3.false c.read_path.ensures
 
 pub returns-else-at-from-4 : goal.returns-else-at-from-4
 returns-else-at-from-4 c =
-    spelled masts·starts (goal.at.returns-else-at-from-4 c).After-byte_at-first c.if-first-eq109.true _ c.after_word-at-then-first-eq109.ensures c.if-at-from-4.false c.read_masts.ensures
+    spelled masts_starts (goal.at.returns-else-at-from-4 c).After-byte_at-first c.if-first-eq109.true _ c.after_word-at-then-first-eq109.ensures c.if-at-from-4.false c.read_masts.ensures
 
 pub returns-else-first-eq109 : goal.returns-else-first-eq109
 unfolding command

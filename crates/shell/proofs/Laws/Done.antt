@@ -25,13 +25,13 @@ one_answer folder s line = append-nil (said (answered folder s (reading line)).a
 -- Of an input and a place in it, what the shell remembered there, the file in use, the lists of sites, and what was written by then:
 module _ (input : List ℕ) (from : ℕ) (shell : Shell) (file : List ℕ) (l : Lists) (out : List ℕ) (filled : ℕ) where
   -- the lines before this place are answered
-  pub record Done (l' : Lists) (now·out : List ℕ) (at full : ℕ) (now : Shell) : Type 0 where
+  pub record Done (l' : Lists) (now_out : List ℕ) (at full : ℕ) (now : Shell) : Type 0 where
     pub lines : List (List ℕ)
     pub ended : ended_from [] (drop from input) ≡ lines ++ ended_from [] (drop at input)
     pub left : left_from [] (drop from input) ≡ left_from [] (drop at input)
     pub answered : (folder : Folder) (s : State) → Holds shell l file s
-        → Written (answers folder s lines) out filled now·out full × Holds now l' file (after folder s lines)
-    pub long : length now·out ≡ length out
+        → Written (answers folder s lines) out filled now_out full × Holds now l' file (after folder s lines)
+    pub long : length now_out ≡ length out
     pub room : filled ≤ 65536 → full ≤ 65536
 
   -- no line yet
@@ -40,7 +40,7 @@ module _ (input : List ℕ) (from : ℕ) (shell : Shell) (file : List ℕ) (l : 
   none_done =
       record { lines = []; ended = refl; left = refl; answered = λ folder s h. (nothing out filled, h); long = refl; room = λ h. h }
 
-  module _ {l' : Lists} {now·out : List ℕ} {at full : ℕ} {now : Shell} (d : Done l' now·out at full now) where
+  module _ {l' : Lists} {now_out : List ℕ} {at full : ℕ} {now : Shell} (d : Done l' now_out at full now) where
     -- the line at the place, where a line feed ends it
     abbrev Ended : Type 0
     Ended = at + length (line_at input at) < length input
@@ -49,13 +49,13 @@ module _ (input : List ℕ) (from : ℕ) (shell : Shell) (file : List ℕ) (l : 
     past = at + length (line_at input at) + 1
 
     -- one line more
-    pub one_done : {l'' : Lists} {then·out : List ℕ} {fuller : ℕ} {then : Shell} → Ended
+    pub one_done : {l'' : Lists} {then_out : List ℕ} {fuller : ℕ} {then : Shell} → Ended
         → ((folder : Folder) (s : State) → Holds now l' file s → (
         let r = answered folder s (reading (line_at input at)) in
-        Written (said r.answer) now·out full then·out fuller × Holds then l'' file r.state
+        Written (said r.answer) now_out full then_out fuller × Holds then l'' file r.state
         ))
-        → length then·out ≡ length now·out → fuller ≤ 65536 → Done l'' then·out past fuller then
-    one_done {l''} {then·out} {fuller} {then} h step long room =
+        → length then_out ≡ length now_out → fuller ≤ 65536 → Done l'' then_out past fuller then
+    one_done {l''} {then_out} {fuller} {then} h step long room =
         let line = line_at input at in
         let e = line_ended input at h in
         record {
@@ -69,7 +69,7 @@ module _ (input : List ℕ) (from : ℕ) (shell : Shell) (file : List ℕ) (l : 
       where
         more : (folder : Folder) (s : State) → Holds shell l file s → (
             let lines = d.lines ++ (line_at input at ∷ []) in
-            Written (answers folder s lines) out filled then·out fuller × Holds then l'' file (after folder s lines)
+            Written (answers folder s lines) out filled then_out fuller × Holds then l'' file (after folder s lines)
             )
         more folder s holds =
             let line = line_at input at in
@@ -81,7 +81,7 @@ module _ (input : List ℕ) (from : ℕ) (shell : Shell) (file : List ℕ) (l : 
 
     -- no line feed ends the line at the place
     pub more_stops : length input ≤ at + length (line_at input at)
-        → Feeds input from shell file l l' out filled now·out (record { next = next.More; at = at; filled = full; shell = now })
+        → Feeds input from shell file l l' out filled now_out (record { next = next.More; at = at; filled = full; shell = now })
     more_stops h =
         record {
           lines = d.lines;
@@ -96,7 +96,7 @@ module _ (input : List ℕ) (from : ℕ) (shell : Shell) (file : List ℕ) (l : 
 
     -- the line at the place is a `use`
     pub use_stops : (base zone : ℕ) → Ended → full ≤ 65519 → reading (line_at input at) ≡ legal («use» base zone)
-        → Feeds input from shell file l l' out filled now·out (record { next = next.Use base zone; at = past; filled = full; shell = now })
+        → Feeds input from shell file l l' out filled now_out (record { next = next.Use base zone; at = past; filled = full; shell = now })
     use_stops base zone h room e =
         let i = line_ended input at h in
         record {
@@ -111,7 +111,7 @@ module _ (input : List ℕ) (from : ℕ) (shell : Shell) (file : List ℕ) (l : 
         }
 
     -- there is no room for another answer
-    pub full_stops : 65519 < full → Feeds input from shell file l l' out filled now·out (record { next = next.Full; at = at; filled = full; shell = now })
+    pub full_stops : 65519 < full → Feeds input from shell file l l' out filled now_out (record { next = next.Full; at = at; filled = full; shell = now })
     full_stops h =
         record {
           lines = d.lines;
