@@ -83,7 +83,7 @@ def main():
             turned = re.sub(r"`[^`\n]+`", lambda it: NAME.sub(lambda n: respelled(n[0]) if n[0] in defined else n[0], it[0]), text)
         else:
             turned = NAME.sub(lambda it: respelled(it[0]) if it[0] in defined else it[0], text)
-        if file not in pages:
+        if file.endswith((".antt", ".rt")):
             turned = DOTTED.sub("_", turned.replace("ListN·length", "list_length"))
         if turned != text:
             open(file, "w", encoding="utf-8").write(turned)
