@@ -72,6 +72,11 @@ match($0, /const [A-Z_]+: (u32|usize) = [0-9]+;/) {
     if (!(word[2] in value)) value[word[2]] = word[5]
     else if (value[word[2]] != word[5]) value[word[2]] = "two_values_of_" word[2]
 }
+# a case of an enum with its number, by its name in capitals
+match($0, /^    [A-Z][A-Za-z]+ = [0-9]+,$/) {
+    split($0, word, /[ ,]+/)
+    value[toupper(word[2])] = word[4]
+}
 /^pub extern "C" fn / { signature = ""; reading = 1 }
 reading { signature = signature $0 " " }
 reading && /-> / {

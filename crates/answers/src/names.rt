@@ -1,36 +1,33 @@
 // Questions about names and bases, at the bounds of bases and zones and beside them.
-use crate::say;
+use std::io;
 
 // Prints the names and the bases.
-pub(crate) fn names(rt: &impl Print) {
-    name(rt, 40, 17);
-    name(rt, 80, 60);
-    name(rt, 84, 1);
-    name(rt, 0, 61);
-    base(rt, 883499);
-    base(rt, 883500);
-    base(rt, 4866999);
-    base(rt, 4867000);
-    base(rt, 9330999);
-    base(rt, 9331000);
+pub(crate) fn names(rt: &impl Print) -> io::Result<()> {
+    for (base, zone) in [(40, 17), (80, 60), (84, 1), (0, 61)] {
+        name(rt, base, zone)?;
+    }
+    for northing in [883499, 883500, 4866999, 4867000, 9330999, 9331000] {
+        base(rt, northing)?;
+    }
+    Ok(())
 }
 
 // Prints base and zone, the refusal and place, and the name of their file where it is given.
-fn name(rt: &impl Print, base: u32, zone: u32) {
+fn name(rt: &impl Print, base: u32, zone: u32) -> io::Result<()> {
     let answer = janlishuk::janlishuk_name(base, zone);
-    say::line(rt, b"name", &[base, zone, answer.refusal, answer.place]);
+    println!(rt; "name {base} {zone} {} {}", answer.refusal, answer.place)?;
     if answer.refusal == 0 {
-        say::text(rt, &answer.name);
-        say::text(rt, b"\n");
+        rt.write_all(&answer.name)?;
+        println!(rt)?;
     }
+    Ok(())
 }
 
 // Prints a northing; refusal, place, base.
-fn base(rt: &impl Print, northing: u32) {
+fn base(rt: &impl Print, northing: u32) -> io::Result<()> {
     let answer = janlishuk::janlishuk_base(northing);
-    say::line(
-        rt,
-        b"base",
-        &[northing, answer.refusal, answer.place, answer.base],
-    );
+    println!(rt;
+        "base {northing} {} {} {}",
+        answer.refusal, answer.place, answer.base
+    )
 }

@@ -1,109 +1,109 @@
 // Questions about points: the reading, the record, and the point for the engine.
-use crate::file::{BASE, LENGTH, ZONE};
-use crate::say;
+use crate::file::{BASE, File, ZONE};
+use crate::say::Expected;
 use janlishuk::{EnginePoint, Metres, Point};
+use std::io;
 
-// The points: zone, easting, northing. Covered and with heights, at the corners of a record and between
-// them; beside a corner without a height; east and north of rectangle 50; not covered; off the ground;
-// and of the next zone.
-const POINTS: [[u32; 3]; 13] = [
-    [17, 500000, 4433000],
-    [17, 500250, 4434250],
-    [17, 500125, 4434000],
-    [17, 500100, 4434300],
-    [17, 500500, 4434500],
-    [17, 500000, 4438000],
-    [17, 500001, 4438000],
-    [17, 507500, 4433000],
-    [17, 500000, 4448500],
-    [17, 499999, 4433000],
-    [17, 875000, 4433000],
-    [17, 500000, 4867000],
-    [18, 500000, 4433000],
+// Points of the file's zone, by easting and northing. Covered and with heights, at the corners of a
+// record and between them; beside a corner without a height; east and north of rectangle 50; not covered;
+// and off the ground.
+const POINTS: [(u32, u32); 12] = [
+    (500000, 4433000),
+    (500250, 4434250),
+    (500125, 4434000),
+    (500100, 4434300),
+    (500500, 4434500),
+    (500000, 4438000),
+    (500001, 4438000),
+    (507500, 4433000),
+    (500000, 4448500),
+    (499999, 4433000),
+    (875000, 4433000),
+    (500000, 4867000),
 ];
 
-// The point of the file's zone at this easting and northing.
-pub(crate) fn at(easting: u32, northing: u32) -> Point {
+// The point of this zone at this easting and northing.
+pub(crate) fn in_zone(zone: u32, easting: u32, northing: u32) -> Point {
     Point {
-        zone: ZONE,
+        zone,
         easting: Metres(easting),
         northing: Metres(northing),
     }
 }
 
-// Prints the answers at the points.
-pub(crate) fn points(rt: &impl Print, file: &[u8; LENGTH]) {
-    for i in 0..POINTS.len() {
-        ask(rt, file, POINTS[i]);
-    }
+// The point of the file's zone at this easting and northing.
+pub(crate) fn at(easting: u32, northing: u32) -> Point {
+    in_zone(ZONE, easting, northing)
 }
 
-// Prints the answers at a point.
-pub(crate) fn ask(rt: &impl Print, file: &[u8; LENGTH], asked: [u32; 3]) {
-    say::line(rt, b"point", &asked);
-    let point = Point {
-        zone: asked[0],
-        easting: Metres(asked[1]),
-        northing: Metres(asked[2]),
-    };
-    let tenths = reading(rt, file, point);
-    record(rt, file, point);
-    engine(rt, file, point, tenths);
-    structure(rt, file, point, tenths);
+// Prints the answers at the points, and at one of the next zone.
+pub(crate) fn points(rt: &impl Print, file: &File) -> io::Result<()> {
+    for (easting, northing) in POINTS {
+        ask(rt, file, at(easting, northing))?;
+    }
+    ask(rt, file, in_zone(18, 500000, 4433000))
+}
+
+// Prints zone, easting and northing of a point, and the answers there.
+pub(crate) fn ask(rt: &impl Print, file: &File, point: Point) -> io::Result<()> {
+    println!(rt;
+        "point {} {} {}",
+        point.zone, point.easting.0, point.northing.0
+    )?;
+    let tenths = reading(rt, file, point)?;
+    record(rt, file, point)?;
+    engine(rt, file, point, tenths)?;
+    structure(rt, file, point, tenths)
 }
 
 // Prints refusal, place, height and code of the reading, and gives back its height in tenths of a
 // metre.
-fn reading(rt: &impl Print, file: &[u8; LENGTH], point: Point) -> u32 {
-    let read = janlishuk::janlishuk_read(file, BASE, ZONE, point);
-    say::line(
-        rt,
-        b"  read",
-        &[read.refusal, read.place, read.height, read.code],
-    );
-    read.height / 25000
+fn reading(rt: &impl Print, file: &File, point: Point) -> io::Result<u32> {
+    let read = janlishuk::janlishuk_read(file.bytes(), BASE, ZONE, point);
+    println!(rt;
+        "  read {} {} {} {}",
+        read.refusal, read.place, read.height, read.code
+    )?;
+    Ok(read.height / 25000)
 }
 
-// The word of two bytes, the high one first.
-fn word(high: u8, low: u8) -> u32 {
-    high as u32 * 256 + low as u32
-}
-
-// Prints the bytes of the record that a point is read from, and its first and its last word.
-fn record(rt: &impl Print, file: &[u8; LENGTH], point: Point) {
-    let record = janlishuk::record(file, BASE, ZONE, point);
-    if record.len() == 1024 {
-        let first = word(record[0], record[1]);
-        let last = word(record[1022], record[1023]);
-        say::line(rt, b"  record", &[1024, first, last]);
-    } else if record.len() == 0 {
-        say::line(rt, b"  record", &[0]);
+// Prints how many bytes the record has that a point is read from, 1024 or none, and its first and its
+// last word.
+fn record(rt: &impl Print, file: &File, point: Point) -> io::Result<()> {
+    let record = janlishuk::record(file.bytes(), BASE, ZONE, point);
+    match record {
+        [] => println!(rt; "  record 0"),
+        [first_high, first_low, .., last_high, last_low] if record.len() == 1024 => {
+            let first = u16::from_be_bytes([*first_high, *first_low]);
+            let last = u16::from_be_bytes([*last_high, *last_low]);
+            println!(rt; "  record 1024 {first} {last}")
+        }
+        _ => Ok(()),
     }
 }
 
 // Prints the point as an enum: tenths of a metre and code, or the refusal.
-fn engine(rt: &impl Print, file: &[u8; LENGTH], point: Point, tenths: u32) {
-    match janlishuk::engine_point(file, BASE, ZONE, point) {
-        EnginePoint::Land(metres, code) => {
-            say::line(rt, b"  land", &[say::tenths(metres, tenths), code]);
+fn engine(rt: &impl Print, file: &File, point: Point, tenths: u32) -> io::Result<()> {
+    match janlishuk::engine_point(file.bytes(), BASE, ZONE, point) {
+        Ok(EnginePoint::Land(metres, code)) => {
+            println!(rt; "  land {} {code}", Expected::tenths(metres, tenths))
         }
-        EnginePoint::Water(metres, code) => {
-            say::line(rt, b"  water", &[say::tenths(metres, tenths), code]);
+        Ok(EnginePoint::Water(metres, code)) => {
+            println!(rt; "  water {} {code}", Expected::tenths(metres, tenths))
         }
-        EnginePoint::Refused(number) => say::line(rt, b"  refused", &[number]),
+        Err(refusal) => println!(rt; "  refused {}", refusal.number()),
     }
 }
 
 // Prints the point as a struct: refusal, place, kind, code, tenths of a metre.
-fn structure(rt: &impl Print, file: &[u8; LENGTH], point: Point, tenths: u32) {
-    let answer = janlishuk::janlishuk_engine_point(file, BASE, ZONE, point);
-    let metres = say::tenths(answer.metres, tenths);
-    let numbers = [
+fn structure(rt: &impl Print, file: &File, point: Point, tenths: u32) -> io::Result<()> {
+    let answer = janlishuk::janlishuk_engine_point(file.bytes(), BASE, ZONE, point);
+    println!(rt;
+        "  struct {} {} {} {} {}",
         answer.refusal,
         answer.place,
         answer.kind,
         answer.code,
-        metres,
-    ];
-    say::line(rt, b"  struct", &numbers);
+        Expected::tenths(answer.metres, tenths)
+    )
 }

@@ -1,50 +1,46 @@
-// What is printed: a word and a row of numbers to a line.
+// What is printed: rows of numbers, and numbers that stand for metres and shares.
+use std::fmt::{self, Display, Formatter};
 
-// What stands for metres or a share other than the one expected.
-const OTHER: u32 = 999999;
+// Numbers in a row, printed with a space before each.
+#[derive(Drop)]
+pub(crate) struct Numbers<'a, T>(pub(crate) &'a [T]);
 
-// Prints the text, as far as the output takes it.
-pub(crate) fn text(rt: &impl Print, text: &[u8]) {
-    let _ = rt.write_all(text);
-}
-
-// Prints a space and the number.
-fn number(rt: &impl Print, number: u32) {
-    text(rt, b" ");
-    let _ = rt.print(number);
-}
-
-// Prints a line: the word and the numbers, with a space before each.
-pub(crate) fn line(rt: &impl Print, word: &[u8], numbers: &[u32]) {
-    text(rt, word);
-    for i in 0..numbers.len() {
-        number(rt, numbers[i]);
-    }
-    text(rt, b"\n");
-}
-
-// The byte, in 32 bits.
-pub(crate) fn wide(byte: u8) -> u32 {
-    byte as u32
-}
-
-// `tenths` where the metres are exactly tenths / 10, else a number that no height has.
-pub(crate) fn tenths(metres: f64, tenths: u32) -> u32 {
-    if tenths as f64 / 10.0 == metres {
-        tenths
-    } else {
-        OTHER
+impl<T: Display> Display for Numbers<'_, T> {
+    // Writes a space and a number, for each number.
+    fn fmt<W: fmt::Write>(&self, f: &mut Formatter<W>) -> fmt::Result {
+        for number in self.0 {
+            write!(f, " {number}")?;
+        }
+        Ok(())
     }
 }
 
-// n times the share: 0 where the share is 0, i where it is i / n rounded once, else a number that no
-// sample has.
-pub(crate) fn sample(share: f64, i: u32, n: u32) -> u32 {
-    if share == 0.0 {
-        0
-    } else if i as f64 / n as f64 == share {
-        i
-    } else {
-        OTHER
+// The number that metres or a share were expected to stand for; none where they are others.
+#[derive(Clone, Copy)]
+pub(crate) struct Expected(Option<u32>);
+
+impl Expected {
+    // What is printed where there is none: no height and no sample has it.
+    const OTHER: u32 = 999999;
+
+    // `tenths` where the metres are exactly tenths / 10.
+    pub(crate) fn tenths(metres: f64, tenths: u32) -> Self {
+        Expected((f64::from(tenths) / 10.0 == metres).then_some(tenths))
+    }
+
+    // n times the share: 0 where the share is 0, and i where it is i / n rounded once.
+    pub(crate) fn sample(share: f64, i: u32, n: u32) -> Self {
+        if share == 0.0 {
+            Expected(Some(0))
+        } else {
+            Expected((f64::from(i) / f64::from(n) == share).then_some(i))
+        }
+    }
+}
+
+impl Display for Expected {
+    // Writes the number, or the one that stands for none.
+    fn fmt<W: fmt::Write>(&self, f: &mut Formatter<W>) -> fmt::Result {
+        write!(f, "{}", self.0.unwrap_or(Expected::OTHER))
     }
 }

@@ -1,112 +1,92 @@
 // Questions about surveys: lists that fit and lists that do not, of the file whole and damaged.
-ghost use Rattle.std.specs.Prelude.{◌≤◌};
-
-use crate::file::{BASE, LENGTH, ZONE};
-use crate::say::wide;
-use crate::{file, say};
+use crate::file::{BASE, File, ZONE};
+use crate::say::Numbers;
+use std::fmt::Display;
+use std::io;
 
 // Room of each list, one entry more than a survey may have points.
 const ROOM: usize = 257;
 
-// Heights as they are before the call.
-fn old_heights() -> [u32; ROOM] {
-    [77; ROOM]
-}
+// The eastings of the points that have one of their own. Points 1, 2 and 3 are refused with 6, 5 and 4,
+// and point 255, the last that a survey may have, with 5; point 4 is read at a place of its own, all others
+// at one place.
+const EASTINGS: [(u8, u32); 5] = [
+    (1, 500001),
+    (2, 499999),
+    (3, 875000),
+    (4, 500500),
+    (255, 499999),
+];
 
-// Codes or refusals as they are before the call.
-fn old_bytes() -> [u8; ROOM] {
-    [77; ROOM]
-}
+// The northings of the points that have one of their own.
+const NORTHINGS: [(u8, u32); 2] = [(1, 4438000), (4, 4434500)];
 
-// The eastings of the points. Points 1, 2 and 3 are refused with 6, 5 and 4, and point 255, the last that
-// a survey may have, with 5; point 4 is read at a place of its own, all others at one place.
-fn eastings() -> [u32; ROOM] {
-    let mut list = [500250; ROOM];
-    list[1] = 500001;
-    list[2] = 499999;
-    list[3] = 875000;
-    list[4] = 500500;
-    list[255] = 499999;
+// How many entries are lent of the lists of eastings, northings, heights, codes and refusals: surveys of
+// no, one, five and the most points, with and without room to spare; and lists that do not fit, each for
+// one reason.
+const WHOLE: [[usize; 5]; 10] = [
+    [0, 0, 0, 0, 0],
+    [1, 1, 1, 1, 1],
+    [5, 5, 7, 7, 7],
+    [256, 256, 256, 256, 256],
+    [257, 257, 257, 257, 257],
+    [5, 4, 7, 7, 7],
+    [4, 5, 7, 7, 7],
+    [5, 5, 4, 7, 7],
+    [5, 5, 7, 4, 7],
+    [5, 5, 7, 7, 4],
+];
+
+// The same for the damaged file: lists that fit, and lists that do not.
+const DAMAGED: [[usize; 5]; 2] = [[5, 5, 7, 7, 7], [5, 4, 7, 7, 7]];
+
+// A list of this number, but for the entries with one of their own.
+fn list(number: u32, own: &[(u8, u32)]) -> [u32; ROOM] {
+    let mut list = [number; ROOM];
+    for &(i, number) in own {
+        list[usize::from(i)] = number;
+    }
     list
 }
 
-// The northings of the points.
-fn northings() -> [u32; ROOM] {
-    let mut list = [4434250; ROOM];
-    list[1] = 4438000;
-    list[4] = 4434500;
-    list
+// Prints the name of a list, its first eight entries and its last three.
+fn held<T: Display>(rt: &impl Print, name: &str, list: &[T; ROOM]) -> io::Result<()> {
+    let list = &list[..];
+    println!(rt; "  {name}{}{}", Numbers(&list[..8]), Numbers(&list[254..]))
 }
 
-// Prints the first eight entries of a list of heights, and the last three.
-fn heights(rt: &impl Print, l: &[u32; ROOM]) {
-    let entries = [
-        l[0], l[1], l[2], l[3], l[4], l[5], l[6], l[7], l[254], l[255], l[256],
-    ];
-    say::line(rt, b"  heights", &entries);
-}
-
-// Prints the first eight entries of a list of bytes, and the last three.
-fn bytes(rt: &impl Print, word: &[u8], l: &[u8; ROOM]) {
-    let entries = [
-        wide(l[0]),
-        wide(l[1]),
-        wide(l[2]),
-        wide(l[3]),
-        wide(l[4]),
-        wide(l[5]),
-        wide(l[6]),
-        wide(l[7]),
-        wide(l[254]),
-        wide(l[255]),
-        wide(l[256]),
-    ];
-    say::line(rt, word, &entries);
-}
-
-// Prints how many entries are lent of the lists of eastings, northings, heights, codes and refusals;
-// refusal and place of the upload; and what the last three lists hold afterwards.
-fn survey(rt: &impl Print, file: &[u8; LENGTH], e: usize, n: usize, h: usize, c: usize, r: usize)
-    requires { (e ≤ 257) × ((n ≤ 257) × ((h ≤ 257) × ((c ≤ 257) × (r ≤ 257)))) }
-{
-    let east = eastings();
-    let north = northings();
-    let mut high = old_heights();
-    let mut codes = old_bytes();
-    let mut refusals = old_bytes();
-    let lent = [e as u32, n as u32, h as u32, c as u32, r as u32];
-    say::line(rt, b"survey", &lent);
+// Prints how many entries are lent of the lists, which is at most all; refusal and place of the upload; and
+// what the lists of heights, codes and refusals hold afterwards.
+fn survey(rt: &impl Print, file: &File, lent: [usize; 5]) -> io::Result<()> {
+    println!(rt; "survey{}", Numbers(&lent))?;
+    let [e, n, h, c, r] = lent.map(|length| length.min(ROOM));
+    let mut heights = [77; ROOM];
+    let mut codes = [77; ROOM];
+    let mut refusals = [77; ROOM];
     let answer = janlishuk::janlishuk_upload(
-        file,
+        file.bytes(),
         BASE,
         ZONE,
-        &east[..e],
-        &north[..n],
-        &mut high[..h],
+        &list(500250, &EASTINGS)[..e],
+        &list(4434250, &NORTHINGS)[..n],
+        &mut heights[..h],
         &mut codes[..c],
         &mut refusals[..r],
     );
-    say::line(rt, b"  upload", &[answer.refusal, answer.place]);
-    heights(rt, &high);
-    bytes(rt, b"  codes", &codes);
-    bytes(rt, b"  refusals", &refusals);
+    println!(rt; "  upload {} {}", answer.refusal, answer.place)?;
+    held(rt, "heights", &heights)?;
+    held(rt, "codes", &codes)?;
+    held(rt, "refusals", &refusals)
 }
 
-// Prints surveys of no, one, five and the most points, with and without room to spare; lists that do not
-// fit, each for one reason; and such a survey, and one that fits, of a damaged file.
-pub(crate) fn surveys(rt: &impl Print, file: &[u8; LENGTH]) {
-    survey(rt, file, 0, 0, 0, 0, 0);
-    survey(rt, file, 1, 1, 1, 1, 1);
-    survey(rt, file, 5, 5, 7, 7, 7);
-    survey(rt, file, 256, 256, 256, 256, 256);
-    survey(rt, file, 257, 257, 257, 257, 257);
-    survey(rt, file, 5, 4, 7, 7, 7);
-    survey(rt, file, 4, 5, 7, 7, 7);
-    survey(rt, file, 5, 5, 4, 7, 7);
-    survey(rt, file, 5, 5, 7, 4, 7);
-    survey(rt, file, 5, 5, 7, 7, 4);
-    let mut damaged = *file;
-    file::put(&mut damaged, 53, 6);
-    survey(rt, &damaged, 5, 5, 7, 7, 7);
-    survey(rt, &damaged, 5, 4, 7, 7, 7);
+// Prints the surveys of the file, whole and damaged.
+pub(crate) fn surveys(rt: &impl Print, file: &File) -> io::Result<()> {
+    for lent in WHOLE {
+        survey(rt, file, lent)?;
+    }
+    let damaged = file.with(53, 6);
+    for lent in DAMAGED {
+        survey(rt, &damaged, lent)?;
+    }
+    Ok(())
 }

@@ -1,8 +1,8 @@
 // P6 to P8: what is read in rectangle 50.
-ghost use Rattle.std.specs.Prelude.{◌≤◌};
-
-use crate::file::{FIRST, LENGTH};
-use crate::{call, file, point, say};
+use crate::file::{File, Record};
+use crate::point::past_corner;
+use crate::say::Tenths;
+use std::io;
 
 // An exact height of one metre.
 const METRE: u32 = 250000;
@@ -11,77 +11,64 @@ const METRE: u32 = 250000;
 const TENTH: u32 = METRE / 10;
 
 // The elevation of the south-west corner.
-const SW: u32 = 100;
+const SW: u16 = 100;
 
 // The elevation of the south-east corner.
-const SE: u32 = 110;
+const SE: u16 = 110;
 
 // A file with the elevations SW and SE, `nw` at the north-west corner and `ne` at the north-east one.
-fn corners(nw: u32, ne: u32) -> [u8; LENGTH]
-    requires { (nw ≤ 8191) × (ne ≤ 8191) }
-{
-    let mut file = file::level();
-    file::set(&mut file, FIRST, 1, SW);
-    file::set(&mut file, FIRST, 2, SE);
-    file::set(&mut file, FIRST, 17, nw);
-    file::set(&mut file, FIRST, 18, ne);
+fn corners(nw: u16, ne: u16) -> File {
+    let mut file = File::level();
+    for (w, elevation) in [(1, SW), (2, SE), (17, nw), (18, ne)] {
+        file.set(Record::First, w, elevation);
+    }
     file
 }
 
-// Prints the exact height of the point fx and fy metres past the south-west corner, and its metres.
-fn height(rt: &impl Print, file: &[u8; LENGTH], fx: u32, fy: u32)
-    requires { (fx ≤ 499) × (fy ≤ 499) }
-{
-    let point = point::past_corner(fx, fy);
-    let height = call::read(file, point).height;
-    say::numbers(rt, b" at fx ", fx, b", fy ", fy);
-    say::number(rt, b": ", height);
-    say::text(rt, b", which is ");
-    say::metres(rt, height / TENTH, call::engine_point(file, point).metres);
-}
-
-// Prints the elevations of the corners, and the height of a point amid them.
-fn amid(rt: &impl Print, before: &[u8], nw: u32, ne: u32, fx: u32, fy: u32)
-    requires { ((nw ≤ 8191) × (ne ≤ 8191)) × ((fx ≤ 499) × (fy ≤ 499)) }
-{
+// Prints the elevations of the corners, and the exact height and the metres of the point fx and fy metres
+// past the south-west one.
+fn amid(rt: &impl Print, nw: u16, ne: u16, fx: u16, fy: u16) -> io::Result<()> {
     let file = corners(nw, ne);
-    say::numbers(rt, before, SW, b", ", SE);
-    say::numbers(rt, b", ", nw, b", ", ne);
-    height(rt, &file, fx, fy);
+    let point = past_corner(fx, fy);
+    let height = file.read(point).height;
+    let metres = Tenths {
+        tenths: height / TENTH,
+        metres: file.engine_point(point).metres,
+    };
+    print!(rt; "corners {SW}, {SE}, {nw}, {ne} at fx {fx}, fy {fy}: {height}, which is {metres}")
 }
 
 // Prints a word's two bytes, and the surface code and elevation that are read of them.
-fn word(rt: &impl Print, high: u32, low: u32)
-    requires { (high ≤ 255) × (low ≤ 255) }
-{
-    let mut file = file::level();
-    file::set(&mut file, FIRST, 1, 256 * high + low);
-    let answer = call::read(&file, point::past_corner(0, 0));
-    say::numbers(rt, b"P6: bytes ", high, b", ", low);
-    say::numbers(
-        rt,
-        b" are code ",
-        answer.code,
-        b", elevation ",
-        answer.height / METRE,
-    );
-    say::text(rt, b"\n");
+fn word(rt: &impl Print, high: u8, low: u8) -> io::Result<()> {
+    let mut file = File::level();
+    file.set(Record::First, 1, u16::from_be_bytes([high, low]));
+    let answer = file.read(past_corner(0, 0));
+    let elevation = answer.height / METRE;
+    print!(rt;
+        "bytes {high}, {low} are code {}, elevation {elevation}",
+        answer.code
+    )
 }
 
 // Prints P6: what a word means.
-pub(crate) fn p6(rt: &impl Print) {
-    word(rt, 96, 100);
+pub(crate) fn p6(rt: &impl Print) -> io::Result<()> {
+    print!(rt; "P6: ")?;
+    word(rt, 96, 100)?;
+    println!(rt)
 }
 
 // Prints P7: the height amid four corners.
-pub(crate) fn p7(rt: &impl Print) {
-    amid(rt, b"P7: corners ", 120, 150, 250, 250);
-    say::text(rt, b"\n");
+pub(crate) fn p7(rt: &impl Print) -> io::Result<()> {
+    print!(rt; "P7: ")?;
+    amid(rt, 120, 150, 250, 250)?;
+    println!(rt)
 }
 
 // Prints P8: the height between the south corners, also where the north ones have no height.
-pub(crate) fn p8(rt: &impl Print) {
-    amid(rt, b"P8: corners ", 120, 150, 125, 0);
-    amid(rt, b"; corners ", 8191, 8191, 125, 0);
-    say::text(rt, b"\n");
+pub(crate) fn p8(rt: &impl Print) -> io::Result<()> {
+    print!(rt; "P8: ")?;
+    amid(rt, 120, 150, 125, 0)?;
+    print!(rt; "; ")?;
+    amid(rt, 8191, 8191, 125, 0)?;
+    println!(rt)
 }

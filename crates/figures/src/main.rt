@@ -2,6 +2,8 @@
 // as one line.
 #![tactic(auto)]
 
+use std::io;
+
 mod call;
 mod file;
 mod height;
@@ -13,18 +15,23 @@ mod samples;
 mod say;
 mod verdict;
 
-// Prints the twelve figures.
+// Prints the twelve figures, or gives back the output's error.
+fn figures(rt: &impl Print) -> io::Result<()> {
+    name::p1(rt)?;
+    place::p2(rt)?;
+    place::p3(rt)?;
+    place::p4(rt)?;
+    place::p5(rt)?;
+    height::p6(rt)?;
+    height::p7(rt)?;
+    height::p8(rt)?;
+    samples::p9(rt)?;
+    verdict::p10(rt)?;
+    plans::p11(rt)?;
+    plans::p12(rt)
+}
+
+// Prints the figures as far as the output takes them, and ends with status 0 where it takes no more.
 fn main(rt: HostRuntime) {
-    name::p1(&rt);
-    place::p2(&rt);
-    place::p3(&rt);
-    place::p4(&rt);
-    place::p5(&rt);
-    height::p6(&rt);
-    height::p7(&rt);
-    height::p8(&rt);
-    samples::p9(&rt);
-    verdict::p10(&rt);
-    plans::p11(&rt);
-    plans::p12(&rt);
+    let _ = figures(&rt);
 }

@@ -1,80 +1,59 @@
 // P11 and P12: the masts of paths that lead east from the corner of rectangle 50.
-ghost use Rattle.std.specs.Prelude.{◌≤◌};
-
-use crate::file::{FIRST, LENGTH, SECOND};
-use crate::{call, file, point, say};
+use crate::file::{File, Record};
+use crate::point::past_corner;
+use std::io;
 
 // The limit of each mast, in metres.
 const LIMIT: u32 = 100;
 
 // How far the path over a hill leads, in metres.
-const OVER: u32 = 1000;
+const OVER: u16 = 1000;
 
 // Prints the masts of the path that leads `east` metres to the east, or the refusal.
-fn masts(rt: &impl Print, file: &[u8; LENGTH], east: u32)
-    requires { east ≤ 14999 }
-{
-    let answer = call::plan(
-        file,
-        point::past_corner(0, 0),
-        point::past_corner(east, 0),
-        LIMIT,
-    );
+fn masts(rt: &impl Print, file: &File, east: u16) -> io::Result<()> {
+    let answer = file.plan(past_corner(0, 0), past_corner(east, 0), LIMIT);
     if answer.refusal == 0 {
-        say::numbers(rt, b": masts ", answer.first, b" and ", answer.second);
+        print!(rt; ": masts {} and {}", answer.first, answer.second)
     } else {
-        say::number(rt, b": refusal ", answer.refusal);
+        print!(rt; ": refusal {}", answer.refusal)
     }
 }
 
-// Prints the kilometres that a path leads, and its masts.
-fn path(rt: &impl Print, before: &[u8], file: &[u8; LENGTH], km: u32)
-    requires { km ≤ 14 }
-{
-    say::number(rt, before, km);
-    say::text(rt, b" km");
-    masts(rt, file, 1000 * km);
-}
-
 // A file at 0 m with a hill of `metres` at the second corner, the middle of the path over it.
-fn hill(metres: u32) -> [u8; LENGTH]
-    requires { metres ≤ 8190 }
-{
-    let mut file = file::level();
-    file::set(&mut file, FIRST, 2, metres);
+fn hill(metres: u16) -> File {
+    let mut file = File::level();
+    file.set(Record::First, 2, metres);
     file
 }
 
 // Prints the metres of a hill, and the masts of the path over it.
-fn over(rt: &impl Print, before: &[u8], metres: u32)
-    requires { metres ≤ 8190 }
-{
-    let file = hill(metres);
-    say::number(rt, before, metres);
-    say::text(rt, b" m");
-    masts(rt, &file, OVER);
+fn over(rt: &impl Print, metres: u16) -> io::Result<()> {
+    print!(rt; "middle {metres} m")?;
+    masts(rt, &hill(metres), OVER)
 }
 
 // Prints P11: the masts of two paths over flat ground.
-pub(crate) fn p11(rt: &impl Print) {
+pub(crate) fn p11(rt: &impl Print) -> io::Result<()> {
     let metres = 100;
-    let mut file = file::level();
-    file::flatten(&mut file, FIRST, metres);
-    file::flatten(&mut file, SECOND, metres);
-    say::numbers(rt, b"P11: flat ", metres, b" m ground, limits ", LIMIT);
-    path(rt, b", ", &file, 10);
-    path(rt, b"; ", &file, 1);
-    say::text(rt, b"\n");
+    let mut file = File::level();
+    file.flatten(Record::First, metres);
+    file.flatten(Record::Second, metres);
+    print!(rt; "P11: flat {metres} m ground, limits {LIMIT}, 10 km")?;
+    masts(rt, &file, 10000)?;
+    print!(rt; "; 1 km")?;
+    masts(rt, &file, 1000)?;
+    println!(rt)
 }
 
 // Prints P12: N and the masts of a path over the highest hill that masts within the limits clear, and
 // what the next higher one gives.
-pub(crate) fn p12(rt: &impl Print) {
-    let file = file::level();
-    let n = call::profile(&file, point::past_corner(0, 0), point::past_corner(OVER, 0)).n;
-    say::numbers(rt, b"P12: N = ", n, b", dE ", OVER);
-    say::number(rt, b", limits ", LIMIT);
-    over(rt, b", ends at 0 m, middle ", 99);
-    over(rt, b"; middle ", 100);
-    say::text(rt, b"\n");
+pub(crate) fn p12(rt: &impl Print) -> io::Result<()> {
+    let n = File::level()
+        .profile(past_corner(0, 0), past_corner(OVER, 0))
+        .n;
+    print!(rt; "P12: N = {n}, dE {OVER}, limits {LIMIT}, ends at 0 m, ")?;
+    over(rt, 99)?;
+    print!(rt; "; ")?;
+    over(rt, 100)?;
+    println!(rt)
 }

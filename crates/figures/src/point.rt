@@ -1,6 +1,4 @@
 // Points of the zone that the figures are of.
-ghost use Rattle.std.specs.Prelude.{◌≤◌};
-
 use crate::file::ZONE;
 use janlishuk::{Metres, Point};
 
@@ -8,7 +6,7 @@ use janlishuk::{Metres, Point};
 pub(crate) const WEST: u32 = 500000;
 
 // The northing of the south-west corner of rectangle 50.
-pub(crate) const SOUTH: u32 = 4433000;
+const SOUTH: u32 = 4433000;
 
 // The point at this easting and northing.
 pub(crate) fn at(easting: u32, northing: u32) -> Point {
@@ -20,8 +18,6 @@ pub(crate) fn at(easting: u32, northing: u32) -> Point {
 }
 
 // The point `east` and `north` metres past the south-west corner of rectangle 50.
-pub(crate) fn past_corner(east: u32, north: u32) -> Point
-    requires { (east ≤ 14999) × (north ≤ 15499) }
-{
-    at(WEST + east, SOUTH + north)
+pub(crate) fn past_corner(east: u16, north: u16) -> Point {
+    at(WEST + u32::from(east), SOUTH + u32::from(north))
 }

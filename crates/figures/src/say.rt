@@ -1,29 +1,43 @@
-// What is printed: texts, numbers, and metres with one decimal place.
+// What is printed: metres with one decimal place, and lists of numbers.
+ghost use Rattle.std.specs.Iterator.{IsFinite};
 
-// Prints the text, as far as the output takes it.
-pub(crate) fn text(rt: &impl Print, text: &[u8]) {
-    let _ = rt.write_all(text);
+use std::fmt::{self, Display, Formatter};
+use std::io;
+
+// Metres that are expected to be `tenths` / 10, printed with one decimal place; a question mark where they
+// are not.
+#[derive(Clone, Copy)]
+pub(crate) struct Tenths {
+    pub(crate) tenths: u32,
+    pub(crate) metres: f64,
 }
 
-// Prints the text, and the number after it.
-pub(crate) fn number(rt: &impl Print, before: &[u8], number: u32) {
-    text(rt, before);
-    let _ = rt.print(number);
-}
-
-// Prints two numbers, each with its text before it.
-pub(crate) fn numbers(rt: &impl Print, before: &[u8], first: u32, between: &[u8], second: u32) {
-    number(rt, before, first);
-    number(rt, between, second);
-}
-
-// Prints the metres with one decimal place where they are exactly `tenths` / 10, else a question
-// mark.
-pub(crate) fn metres(rt: &impl Print, tenths: u32, metres: f64) {
-    if tenths as f64 / 10.0 == metres {
-        numbers(rt, b"", tenths / 10, b".", tenths % 10);
-    } else {
-        text(rt, b"?");
+impl Display for Tenths {
+    // Writes the metres or the question mark, and their unit.
+    fn fmt<W: fmt::Write>(&self, f: &mut Formatter<W>) -> fmt::Result {
+        let tenths = self.tenths;
+        if f64::from(tenths) / 10.0 == self.metres {
+            write!(f, "{}.{} m", tenths / 10, tenths % 10)
+        } else {
+            write!(f, "? m")
+        }
     }
-    text(rt, b" m");
+}
+
+// Prints the numbers, with commas between them.
+pub(crate) fn list<I: Iterator<Item = u32> + Drop>(
+    rt: &impl Print,
+    mut numbers: I,
+) -> io::Result<()>
+    requires can { I.can_next numbers }
+    requires finite { IsFinite (I.remaining numbers) }
+{
+    let Some(first) = numbers.next() else {
+        return Ok(());
+    };
+    print!(rt; "{first}")?;
+    for number in numbers {
+        print!(rt; ", {number}")?;
+    }
+    Ok(())
 }

@@ -1,13 +1,11 @@
 -- The ground of a file that is opened with a base latitude and a zone, and the points that it holds. Document 01, "Ground of a file".
 -- Assumes nothing.
 use Rattle.std.specs.Prelude.{ℕ, ◌+◌, ◌-◌, ◌/◌, Bool, not, ◌&&◌, leb, eqb}
-use Rattle.ground.specs.Outcome.{Outcome, given, refused, unless}
+use Rattle.ground.specs.Outcome.{Outcome, given, unless}
 use Rattle.ground.specs.Measure.{in_units}
 use Rattle.ground.specs.Boundary.{y_b, named, between}
 use Rattle.ground.specs.declared.point.Point.{Point}
 use Rattle.ground.specs.declared.Ground.{Ground}
-use Rattle.ground.specs.declared.Opened.{Opened}
-use Rattle.ground.specs.declared.Opened.TheVariants.{On, Refused}
 
 -- the ground of base b and zone z: from yB(b) to before yB(b+4)
 abbrev pub ground_of : ℕ → ℕ → Ground
@@ -20,11 +18,6 @@ rows_of g = (g.north.0 - g.south.0) / 31
 -- a file is opened with a base and a zone that are named, else refusal 2
 abbrev pub opened : ℕ → ℕ → Outcome Ground
 opened b z = unless (not (named b z)) 2 (given (ground_of b z))
-
--- what each case of `Opened` means
-abbrev pub opened_means : Opened → Outcome Ground
-opened_means (On g) = given g
-opened_means (Refused number) = refused number 0
 
 -- The ground holds eastings from 125,000 to 874,999 m, and northings whose y is from yB(b) to before yB(b+4). In metres that is document 01's
 -- "from 500 yB(b) to 500 yB(b+4) - 1": `held_in_metres` of proofs/Laws/Ground.antt shows it.

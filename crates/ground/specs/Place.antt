@@ -1,19 +1,24 @@
 -- Where a point lies in its file: the rectangle, the words at its corners, and what each corner weighs.
 -- Document 01, "Ground of a file" and, for fx, fy and the weights, "A reading". Assumes nothing.
 use Rattle.std.specs.Prelude.{ℕ, ◌+◌, ◌-◌, ◌*◌, ◌/◌, not}
-use Rattle.ground.specs.Outcome.{Outcome, given, refused, unless}
+use Rattle.ground.specs.Outcome.{Outcome, given, unless}
 use Rattle.ground.specs.Measure.{units, in_units, past_unit}
 use Rattle.ground.specs.Ground.{holds}
 use Rattle.ground.specs.declared.measure.Metres.{Metres}
 use Rattle.ground.specs.declared.measure.Units.{Units}
 use Rattle.ground.specs.declared.point.Point.{Point}
 use Rattle.ground.specs.declared.rectangle.Rectangle.{Rectangle}
-use Rattle.ground.specs.declared.place.Weights.{Weights}
-use Rattle.ground.specs.declared.place.Words.{Words}
+use Rattle.ground.specs.declared.place.PerCorner.{PerCorner}
 use Rattle.ground.specs.declared.place.Place.{Place}
 use Rattle.ground.specs.declared.Ground.{Ground}
-use Rattle.ground.specs.declared.Located.{Located}
-use Rattle.ground.specs.declared.Located.TheVariants.{At, Refused}
+
+-- what each corner weighs
+abbrev pub Weights : Type 0
+Weights = PerCorner ℕ
+
+-- the words at the corners
+abbrev pub Words : Type 0
+Words = PerCorner ℕ
 
 -- the rectangle of row Iy and column Ix
 abbrev pub rectangle : ℕ → ℕ → Rectangle
@@ -71,11 +76,6 @@ words_of s = record { sw = word s; se = word s + 1; nw = word s + 16; ne = word 
 -- where a point of the zone and on the ground lies, else refusal 4
 abbrev pub located : Ground → Point → Outcome Place
 located g p = unless (not (holds g p)) 4 (given (place_of g p))
-
--- what each case of `Located` means
-abbrev pub located_means : Located → Outcome Place
-located_means (At s) = given s
-located_means (Refused number) = refused number 0
 
 -- P holds at each of the four corners
 pub record Each {A : Type 0} (P : A → Type 0) (a b c d : A) : Type 0 where

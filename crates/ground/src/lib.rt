@@ -2,19 +2,23 @@
 #![tactic(auto)]
 
 ghost use Rattle.std.specs.Prelude.{◌≡◌, ◌≤◌};
-ghost use Rattle.ground.specs.Ground.{rows_of, opened, opened_means, holds};
-ghost use Rattle.ground.specs.Place.{located, located_means};
+ghost use Rattle.ground.specs.Refusal.{outcome_of};
+ghost use Rattle.ground.specs.Ground.{rows_of, opened, holds};
+ghost use Rattle.ground.specs.Place.{located};
 
 use measure::{Metres, Units};
 use place::Place;
 use point::Point;
 use rectangle::Rectangle;
+use refusal::Refusal;
+use table::Span;
 
 pub mod measure;
 pub mod name;
 pub mod place;
 pub mod point;
 pub mod rectangle;
+pub mod refusal;
 pub mod table;
 
 // The ground of a file that is opened: its zone and its boundaries.
@@ -25,20 +29,6 @@ pub struct Ground {
     pub north: Units,
 }
 
-// What opening a file comes to: its ground, or the number of the refusal.
-#[derive(Clone, Copy)]
-pub enum Opened {
-    On(Ground),
-    Refused(u32),
-}
-
-// What locating a point comes to: its place, or the number of the refusal.
-#[derive(Clone, Copy)]
-pub enum Located {
-    At(Place),
-    Refused(u32),
-}
-
 impl Ground {
     // The first easting of the ground, in metres.
     pub const FIRST_EASTING: u32 = 125000;
@@ -47,16 +37,14 @@ impl Ground {
     pub const LAST_EASTING: u32 = 874999;
 
     // The ground of the file of a base and a zone, or refusal 2.
-    pub fn open(base: u32, zone: u32) -> Opened
-        ensures { opened_means result ≡ opened base zone }
+    pub fn open(base: u32, zone: u32) -> Result<Ground, Refusal>
+        ensures { outcome_of result ≡ opened base zone }
     {
         if !table::are_named(base, zone) {
-            return Opened::Refused(2);
+            return Err(Refusal::NotNamed);
         }
-        let file = table::boundaries((base / 4) as usize);
-        let south = file.south;
-        let north = file.north;
-        Opened::On(Ground { zone, south, north })
+        let Span { south, north } = table::boundaries((base / 4) as usize);
+        Ok(Ground { zone, south, north })
     }
 
     // How many rows of rectangles there are between the boundaries.
@@ -81,16 +69,16 @@ impl Ground {
 
     // Where the point lies, or refusal 4 where it is of another zone or not on the ground. The first
     // easting is a whole number of units, so units and metres past them may be counted from it.
-    pub fn locate(self, point: Point) -> Located
-        ensures { located_means result ≡ located self point }
+    pub fn locate(self, point: Point) -> Result<Place, Refusal>
+        ensures { outcome_of result ≡ located self point }
     {
         if !self.holds(point) {
-            return Located::Refused(4);
+            return Err(Refusal::OffGround);
         }
         let east = Metres(point.easting.0 - Ground::FIRST_EASTING);
         let y = point.northing.in_units();
         let north = Units(y.0 - self.south.0);
-        Located::At(Place::at(
+        Ok(Place::at(
             east.in_units(),
             north,
             east.past_unit(),

@@ -6,23 +6,20 @@ ghost use Rattle.ground.specs.Seam.{west_allowed, south_allowed, moved, in_west,
 use crate::measure::{Metres, Units};
 use crate::rectangle::Rectangle;
 
-// What each of the four corners weighs; together 250,000.
+// Something of each of the four corners around a point.
 #[derive(Clone, Copy)]
-pub struct Weights {
-    pub sw: u32,
-    pub se: u32,
-    pub nw: u32,
-    pub ne: u32,
+pub struct PerCorner<T> {
+    pub sw: T,
+    pub se: T,
+    pub nw: T,
+    pub ne: T,
 }
 
-// The words at the four corners, counted from 1.
-#[derive(Clone, Copy)]
-pub struct Words {
-    pub sw: usize,
-    pub se: usize,
-    pub nw: usize,
-    pub ne: usize,
-}
+// What each corner weighs; together 250,000.
+pub type Weights = PerCorner<u32>;
+
+// The words at the corners, counted from 1.
+pub type Words = PerCorner<usize>;
 
 // Where a point lies: a rectangle, the column wx and row wy of the word at the point's south-west
 // corner in it, the metres fx and fy past that corner, and the weights. The place of a refusal is
@@ -37,7 +34,7 @@ pub struct Place {
     pub weights: Weights,
 }
 
-impl Weights {
+impl PerCorner<u32> {
     // The weights fx metres east and fy metres north of the south-west corner.
     pub(crate) fn at(fx: Metres, fy: Metres) -> Weights
         requires { (fx.0 < 500) × (fy.0 < 500) }
@@ -45,7 +42,7 @@ impl Weights {
     {
         let gx = Metres::IN_A_UNIT - fx.0;
         let gy = Metres::IN_A_UNIT - fy.0;
-        Weights {
+        PerCorner {
             sw: gx * gy,
             se: fx.0 * gy,
             nw: gx * fy.0,
@@ -86,7 +83,7 @@ impl Place {
         ensures { result ≡ words_of self }
     {
         let w = self.word();
-        Words {
+        PerCorner {
             sw: w,
             se: w + 1,
             nw: w + Rectangle::WIDE,
@@ -95,7 +92,7 @@ impl Place {
     }
 
     // Whether the point may be read from the rectangle to the west: it lies on the western edge of its
-    // own, and that is not in column 0.
+    // own, and that is not in column 0. West and south have a function each, as each has its own promise.
     pub fn allows_west(self) -> bool
         ensures { result ≡ west_allowed self }
     {
@@ -121,7 +118,7 @@ impl Place {
             wy,
             fx: Metres(self.fx.0),
             fy: Metres(self.fy.0),
-            weights: Weights {
+            weights: PerCorner {
                 sw: self.weights.sw,
                 se: self.weights.se,
                 nw: self.weights.nw,

@@ -1,6 +1,6 @@
 -- What the functions inside this crate ask of each other and tell each other, on the way to the promises. A reader of the promises may pass
 -- over this file. Assumes nothing.
-use Rattle.std.specs.Prelude.{◌≡◌, ℕ, ◌+◌, ◌*◌, ◌<◌, ◌≤◌, Bool, true, false, not, ◌&&◌, List, length, ◌≢◌, slice_index_or}
+use Rattle.std.specs.Prelude.{◌≡◌, ℕ, ◌+◌, ◌*◌, ◌<◌, ◌≤◌, Bool, true, false, not, ◌&&◌, List, length, ◌≢◌, slice_index_or, Option, Some, None}
 use Rattle.index.specs.Index.{position, is_record, fresh, entries_pass}
 use Rattle.index.specs.declared.marks.Four.{Four}
 
@@ -28,10 +28,10 @@ pub record Walked (file : List ℕ) (M : ℕ) (marks : List Bool) (n : ℕ) : Ty
   pub marked : (r : ℕ) → 1 ≤ r → r ≤ 4096 → slice_index_or marks r false ≡ not (fresh file n r)
 
 -- Where marking the numbers from position `from` on, four at a time, comes to: a position r, at most the end, before which all have been walked over;
--- or 0, and then not all positions before the end pass.
-pub record PastRecords (file : List ℕ) (M from end : ℕ) (marks : List Bool) (r : ℕ) : Type 0 where
-  pub goes : 0 < r → Walked file M marks r × ((from ≤ r) × (r ≤ end))
-  pub stops : r ≡ 0 → entries_pass file M end ≡ false
+-- or none, and then not all positions before the end pass.
+abbrev pub PastRecords : (file : List ℕ) → (M from end : ℕ) → (marks : List Bool) → Option ℕ → Type 0
+PastRecords file M from end marks (Some r) = Walked file M marks r × ((from ≤ r) × (r ≤ end))
+PastRecords file M from end marks None = entries_pass file M end ≡ false
 
 -- What marking the numbers of k positions tells of every file in which they stand at the positions n to n + k - 1: if r is true these positions
 -- pass too, and else not all positions up to them pass.

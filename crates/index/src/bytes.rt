@@ -23,12 +23,13 @@ pub const LAST: usize = 3072;
 
 // The n-th number of the bytes, counted from 1, high byte first: position n of a file's index, or
 // word n of a record.
+#[tactic(auto, unfolding(crate::specs::Bytes::nth))]
 pub fn nth(bytes: &[u8], n: usize) -> u16
     requires { (1 ≤ n) × (2 * n ≤ length bytes.now) }
     ensures { result ≡ nth bytes.now n }
 {
     let at = 2 * (n - 1);
-    256 * bytes[at] as u16 + bytes[at + 1] as u16
+    u16::from_be_bytes([bytes[at], bytes[at + 1]])
 }
 
 // Whether the file's length is that of 6 to 4096 whole records. One comparison tells: each byte past the

@@ -14,14 +14,15 @@ fn four_positions(file: &[u8], n: usize) -> u64
     requires { (1 ≤ n) × (2 * n + 6 ≤ length file.now) }
     ensures { result ≡ four_positions file.now n }
 {
-    0x1_0000_0000_0000 * nth(file, n) as u64
-        + 0x1_0000_0000 * nth(file, n + 1) as u64
-        + 0x1_0000 * nth(file, n + 2) as u64
-        + nth(file, n + 3) as u64
+    0x1_0000_0000_0000 * u64::from(nth(file, n))
+        + 0x1_0000_0000 * u64::from(nth(file, n + 1))
+        + 0x1_0000 * u64::from(nth(file, n + 2))
+        + u64::from(nth(file, n + 3))
 }
 
 // A position r such that all from `from` to before r hold 0, found four at a time: either fewer than
-// four are left before the end, or one of the next four is not 0.
+// four are left before the end, or one of the next four is not 0. The index stays counted by hand: the place
+// where it stops is what comes back.
 fn past_fours(file: &[u8], from: usize, end: usize) -> usize
     requires { (1 ≤ from) × ((from ≤ end) × ((4 ≤ end) × (2 * end ≤ length file.now))) }
     ensures { Skipped file.now from end result }
@@ -42,14 +43,12 @@ fn next_entry(file: &[u8], from: usize, end: usize) -> usize
     requires { (1 ≤ from) × ((from ≤ end) × ((4 ≤ end) × (2 * end ≤ length file.now))) }
     ensures { NextEntry file.now from end result }
 {
-    let mut n = past_fours(file, from, end);
-    while n < end {
+    for n in past_fours(file, from, end)..end {
         if nth(file, n) != 0 {
-            break;
+            return n;
         }
-        n += 1;
     }
-    n
+    end
 }
 
 // The numbers in positions n to n + 3.
@@ -58,22 +57,23 @@ fn four_at(file: &[u8], n: usize) -> Four
     ensures { FourAt file.now n result }
 {
     Four {
-        first: nth(file, n) as usize,
-        second: nth(file, n + 1) as usize,
-        third: nth(file, n + 2) as usize,
-        fourth: nth(file, n + 3) as usize,
+        first: usize::from(nth(file, n)),
+        second: usize::from(nth(file, n + 1)),
+        third: usize::from(nth(file, n + 2)),
+        fourth: usize::from(nth(file, n + 3)),
     }
 }
 
 // Marks the numbers in the positions from `from` on, four at a time, as long as all four are from 7 to
-// M. Comes back with the position after them; or with 0, which is none, where a number had a mark.
+// M. Comes back with the position after them, by which it is counted by hand; or with none, where a number
+// had a mark.
 fn past_records(
     file: &[u8],
     highest: usize,
     from: usize,
     end: usize,
     marks: &mut [bool; MARKS],
-) -> usize
+) -> Option<usize>
     requires { Walked file.now highest marks.old from × ((from ≤ end) × ((4 ≤ end) × ((2 * end ≤ length file.now) × (6 ≤ highest)))) }
     ensures { PastRecords file.now highest from end marks.new result }
 {
@@ -85,16 +85,16 @@ fn past_records(
             break;
         }
         if !marks::mark_four(four, marks) {
-            return 0;
+            return None;
         }
         n += 4;
     }
-    n
+    Some(n)
 }
 
 // Whether each position from 1 to before the end holds 0, or a number from 7 to M that no position
 // before it holds. Runs of such numbers are passed by fours; then one position is tried, and the zeros
-// after it are passed by fours.
+// after it are passed by fours: no range has the places that the walk comes to.
 pub(crate) fn all_pass(file: &[u8], highest: usize, end: usize) -> bool
     requires { (4 ≤ end) × ((2 * end ≤ length file.now) × ((6 ≤ highest) × (highest ≤ most_records))) }
     ensures { result ≡ entries_pass file.now highest end }
@@ -103,22 +103,21 @@ pub(crate) fn all_pass(file: &[u8], highest: usize, end: usize) -> bool
     let last = end - 4;
     let mut n = 1;
     while n <= last {
-        n = past_records(file, highest, n, end, &mut marks);
-        if n == 0 {
+        let Some(next) = past_records(file, highest, n, end, &mut marks) else {
             return false;
-        }
+        };
+        n = next;
         if n <= last {
-            if !marks::mark_one(nth(file, n) as usize, highest, &mut marks) {
+            if !marks::mark_one(usize::from(nth(file, n)), highest, &mut marks) {
                 return false;
             }
             n = past_fours(file, n + 1, end);
         }
     }
-    while n < end {
-        if !marks::mark_one(nth(file, n) as usize, highest, &mut marks) {
+    for n in n..end {
+        if !marks::mark_one(usize::from(nth(file, n)), highest, &mut marks) {
             return false;
         }
-        n += 1;
     }
     true
 }

@@ -1,9 +1,11 @@
-// The marks of an index: one for each record number, set where the number was met.
+// The marks of an index: one for each record number, set where the number was met. They are lent beside M, which the
+// walk over the index needs without them too.
 ghost use Rattle.std.specs.Prelude.{◌≤◌};
 ghost use Rattle.index.specs.Bytes.{most_records};
 ghost use Rattle.index.specs.Inside.{FourAre, Marking, RecordAt, FourRecords, NumberAt};
 
 use crate::bytes::{INDEX, MOST_RECORDS, is_record};
+use std::mem;
 
 // A mark for each number from 0 to the most records that a file may have; those below 7 are never
 // set.
@@ -35,9 +37,7 @@ fn mark(number: usize, marks: &mut [bool; MARKS]) -> bool
     requires { number ≤ most_records }
     ensures { Marking 1 (RecordAt number) marks.old marks.new result }
 {
-    let new = !marks[number];
-    marks[number] = true;
-    new
+    !mem::replace(&mut marks[number], true)
 }
 
 // Marks the four numbers one after the other, and tells whether none had a mark.

@@ -5,7 +5,10 @@ use mathlib.Core.Bool.{Bool}
 use mathlib.Core.List.{List, [], ◌∷◌, ◌++◌}
 use Prim.Native.Nat.{ℕ}
 use denote.Ref.{Bor, MutBor}
+use Rattle.std.specs.Prelude.{Result, Ok, Err}
 use Rattle.ground.specs.Outcome.{refused, refusal_number, refusal_place, filled_by}
+use Rattle.ground.specs.Refusal.{numbered}
+use Rattle.ground.specs.declared.refusal.Refusal.{Refusal}
 use Rattle.ground.specs.Measure.{metres}
 use Rattle.ground.specs.Name.{file_name, name_answer}
 use Rattle.ground.specs.Boundary.{base_of, base_answer}
@@ -13,6 +16,7 @@ use Rattle.ground.specs.declared.name.NameAnswer.{NameAnswer}
 use Rattle.ground.specs.declared.table.BaseAnswer.{BaseAnswer}
 use Rattle.ground.specs.declared.point.Point.{Point}
 use Rattle.ground.proofs.Laws.Outcome.{not_both}
+use Rattle.ground.proofs.Laws.Refusal.{numbered_number}
 use Rattle.terrain.specs.Check.{checked, check_answer}
 use Rattle.terrain.specs.Record.{record_for, RecordPart}
 use Rattle.terrain.specs.declared.check.Terrain.{Terrain}
@@ -24,7 +28,6 @@ use Rattle.reading.specs.Engine.{EngineValues, engine, engine_means}
 use Rattle.reading.specs.declared.point.Reading.{Reading}
 use Rattle.reading.specs.declared.point.ReadAnswer.{ReadAnswer}
 use Rattle.reading.specs.declared.engine.EnginePoint.{EnginePoint}
-use Rattle.reading.specs.declared.engine.EnginePoint.TheVariants as point
 use Rattle.reading.proofs.Laws.Means.{engine_once}
 use Rattle.spot.specs.Spot.{spot}
 use Rattle.survey.specs.Survey.{Lists, five_lists, upload, upload_answer}
@@ -63,10 +66,9 @@ use Rattle.janlishuk.proofs.between.janlishuk_plan.Reads as janlishuk-plan
 use Rattle.janlishuk.proofs.between.janlishuk_engine_row.Reads as janlishuk-engine-row
 
 -- the point as an enum that shows a refusal is that refusal
-pub engine_bare : {number at : ℕ} (r : EnginePoint) → engine_means r ≡ refused number at → r ≡ point.Refused number
-engine_bare (point.Land m c) e = absurd (not_both (sym e))
-engine_bare (point.Water m c) e = absurd (not_both (sym e))
-engine_bare (point.Refused k) e = cc
+pub engine_bare : {number at : ℕ} (r : Result EnginePoint Refusal) → engine_means r ≡ refused number at → r ≡ Err (numbered number)
+engine_bare (Ok p) e = absurd (not_both (sym e))
+engine_bare (Err r) e = ap Err (sym (numbered_number r) ∙ ap numbered (ap refusal_number e))
 
 -- What it is to answer an outcome with each type of answer.
 abbrev check_shape : Shape Terrain CheckAnswer check_shown
@@ -101,7 +103,7 @@ abbrev upload_shape : (lent : Lists) → Shape Lists Surveyed (upload_shown lent
 upload_shape lent = as_struct (λ o. record { answer = upload_answer o; lists = filled_by lent o }) (λ o. (refl, refl)) (λ n p. refl)
 
 -- the point as an enum answers what it means
-abbrev enum_shape : Shape EngineValues EnginePoint enum_shown
+abbrev enum_shape : Shape EngineValues (Result EnginePoint Refusal) enum_shown
 enum_shape =
     by_number_lem (λ o r. engine_means r ≡ o) (λ o r e. (ap refusal_number e, ap refusal_place e)) (λ n p r e. engine_bare r e) (λ o r s e f. engine_once r s (e ∙ sym f))
 

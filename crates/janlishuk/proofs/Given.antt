@@ -34,6 +34,8 @@ use Rattle.reading.specs.Reading.{reading}
 use Rattle.reading.specs.Engine.{metres_of}
 use Rattle.reading.specs.declared.point.ReadAnswer.{ReadAnswer}
 use Rattle.reading.specs.declared.point.Reading.{Reading}
+use Rattle.std.specs.Prelude.{Result, Ok}
+use Rattle.ground.specs.declared.refusal.Refusal.{Refusal}
 use Rattle.reading.specs.declared.engine.EnginePoint.{EnginePoint}
 use Rattle.reading.specs.declared.engine.EnginePoint.TheVariants as point
 use Rattle.reading.proofs.Laws.Means.{engine_once}
@@ -105,20 +107,20 @@ module _ (file after : List ℕ) (b z : ℕ) where
         rw (h.0, reads.0, read.1, ne_eqb read.0.code 3 c, ne_eqb read.0.code 6 d)
 
     -- water, as an enum
-    pub water_enum : (s.code ≡ 3) ⊎ (s.code ≡ 6) → (r : EnginePoint) → Tells file after b z p r → r ≡ point.Water (in_metres s.height) s.code
+    pub water_enum : (s.code ≡ 3) ⊎ (s.code ≡ 6) → (r : Result EnginePoint Refusal) → Tells file after b z p r → r ≡ Ok (point.Water (in_metres s.height) s.code)
     unfolding metres_of
     water_enum c r h =
         let d = rw (reads.0, read.1) at c in
-        engine_once r (point.Water (in_metres s.height) s.code) (rw (h.0, reads.0, read.1, water _ d))
+        engine_once r (Ok (point.Water (in_metres s.height) s.code)) (rw (h.0, reads.0, read.1, water _ d))
 
     -- land, as an enum
-    pub land_enum : (s.code ≡ 3 → ⊥) → (s.code ≡ 6 → ⊥) → (r : EnginePoint) → Tells file after b z p r
-        → r ≡ point.Land (in_metres s.height) s.code
+    pub land_enum : (s.code ≡ 3 → ⊥) → (s.code ≡ 6 → ⊥) → (r : Result EnginePoint Refusal) → Tells file after b z p r
+        → r ≡ Ok (point.Land (in_metres s.height) s.code)
     unfolding metres_of
     land_enum c d r h =
         let c = rw (reads.0, read.1) at c in
         let d = rw (reads.0, read.1) at d in
-        engine_once r (point.Land (in_metres s.height) s.code) (rw (h.0, reads.0, read.1, ne_eqb read.0.code 3 c, ne_eqb read.0.code 6 d))
+        engine_once r (Ok (point.Land (in_metres s.height) s.code)) (rw (h.0, reads.0, read.1, ne_eqb read.0.code 3 c, ne_eqb read.0.code 6 d))
 
   -- an engine row holds two doubles: the height in metres, and the share of the way, i divided once by N
   pub row_holds : (p q : Point) (pr : ProfileAnswer) → Profiles file after b z p q pr → pr.refusal ≡ 0 → (i : ℕ) → i ≤ pr.n

@@ -24,6 +24,8 @@ use Rattle.reading.specs.Reading.{read_taken, point_in, reading, read_answer}
 use Rattle.reading.specs.Engine.{engine, engine_means}
 use Rattle.reading.specs.declared.point.Reading.{Reading}
 use Rattle.reading.specs.declared.point.ReadAnswer.{ReadAnswer}
+use Rattle.std.specs.Prelude.{Result}
+use Rattle.ground.specs.declared.refusal.Refusal.{Refusal}
 use Rattle.reading.specs.declared.engine.EnginePoint.{EnginePoint}
 use Rattle.reading.proofs.Laws.Reading.{at_place}
 use Rattle.survey.specs.Survey.{Lists, point_at}
@@ -125,7 +127,7 @@ module _ (file after : List ℕ) (b z : ℕ) (p : Point) (not5 : refusal_number 
   pub read_stays : (r : ReadAnswer) → Reads file after b z p r → r ≡ read_answer (reading_before file b z p)
   read_stays r h = h.0 ∙ ap read_answer (reading_keeps file b z p not5)
 
-  pub enum_stays : (r : EnginePoint) → Tells file after b z p r → engine_means r ≡ engine (reading_before file b z p)
+  pub enum_stays : (r : Result EnginePoint Refusal) → Tells file after b z p r → engine_means r ≡ engine (reading_before file b z p)
   enum_stays r h = h.0 ∙ ap engine (reading_keeps file b z p not5)
 
   pub struct_stays : (r : EngineAnswer) → Shows file after b z p r → r ≡ engine_answer (engine (reading_before file b z p))

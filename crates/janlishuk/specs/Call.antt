@@ -2,18 +2,19 @@
 -- checks. Callers need check nothing beforehand. A refusal carries only its number and place, and the terrain bytes are never written." Document 02:
 -- "Numbers from 10 on join 01's table; where a request orders its own checks, demand 1 means that order." Besides, the contract of a call gives its
 -- promise, and two results that it allows are the same. proofs/Calls.antt lists the calls and shows this of each. Assumes nothing.
-use Rattle.std.specs.Prelude.{◌≡◌, List, [], ◌∷◌, ◌↔◌, ℕ, pos, Float}
+use Rattle.std.specs.Prelude.{◌≡◌, List, [], ◌∷◌, ◌↔◌, ℕ, pos, Float, Result, Err}
 use Rattle.std.specs.Float.{binary64}
 use Rattle.std.specs.Float.Ieee.{of_int}
 use Rattle.std.specs.Borrow.{Bor}
 use Rattle.ground.specs.Outcome.{refusal_number, refusal_place}
+use Rattle.ground.specs.Refusal.{numbered}
+use Rattle.ground.specs.declared.refusal.Refusal.{Refusal}
 use Rattle.ground.specs.declared.name.NameAnswer.{NameAnswer}
 use Rattle.ground.specs.declared.table.BaseAnswer.{BaseAnswer}
 use Rattle.terrain.specs.declared.check.CheckAnswer.{CheckAnswer}
 use Rattle.reading.specs.Engine.{engine_means}
 use Rattle.reading.specs.declared.point.ReadAnswer.{ReadAnswer}
 use Rattle.reading.specs.declared.engine.EnginePoint.{EnginePoint}
-use Rattle.reading.specs.declared.engine.EnginePoint.TheVariants as point
 use Rattle.survey.specs.Survey.{Lists}
 use Rattle.survey.specs.declared.UploadAnswer.{UploadAnswer}
 use Rattle.profile.specs.Profile.{zeros}
@@ -88,9 +89,9 @@ abbrev pub upload_shown : Lists → Shown Surveyed
 upload_shown lent =
     by_number (λ v. v.answer.refusal) (λ v. v.answer.place) (λ n p. record { answer = record { refusal = n; place = p }; lists = lent })
 
--- the point as an enum, by what its cases mean
-abbrev pub enum_shown : Shown EnginePoint
-enum_shown = by_number (λ r. refusal_number (engine_means r)) (λ r. refusal_place (engine_means r)) (λ n p. point.Refused n)
+-- the point as an enum, by what it means; a refusal is the one with that number
+abbrev pub enum_shown : Shown (Result EnginePoint Refusal)
+enum_shown = by_number (λ r. refusal_number (engine_means r)) (λ r. refusal_place (engine_means r)) (λ n p. Err (numbered n))
 
 -- the record, by being empty
 abbrev pub record_shown : Shown (Bor (List ℕ))

@@ -1,6 +1,6 @@
 -- What each public call promises of its answer r, for all bytes and all numbers: what the crates' definitions give for what it was asked with, what lent
 -- lists hold after the call, and that the lent file holds after it what it held before. Assumes nothing.
-use Rattle.std.specs.Prelude.{◌≡◌, List, ℕ}
+use Rattle.std.specs.Prelude.{◌≡◌, List, ℕ, Result}
 use Rattle.std.specs.Borrow.{Bor}
 use Rattle.ground.specs.Measure.{metres}
 use Rattle.ground.specs.Name.{file_name, name_answer}
@@ -8,6 +8,7 @@ use Rattle.ground.specs.Boundary.{base_of, base_answer}
 use Rattle.ground.specs.declared.name.NameAnswer.{NameAnswer}
 use Rattle.ground.specs.declared.table.BaseAnswer.{BaseAnswer}
 use Rattle.ground.specs.declared.point.Point.{Point}
+use Rattle.ground.specs.declared.refusal.Refusal.{Refusal}
 use Rattle.terrain.specs.Check.{checked, check_answer}
 use Rattle.terrain.specs.Record.{record_for, RecordPart}
 use Rattle.reading.specs.Reading.{reading, read_answer}
@@ -63,8 +64,8 @@ Uploads file after b z lent left r = Uploaded file b z lent left r × Unwritten 
 abbrev pub HandsBack : (before after : Bor (List ℕ)) → ℕ → ℕ → Point → Bor (List ℕ) → Type 0
 HandsBack file after b z p r = RecordPart file r (record_for file.now b z p) × Unwritten file.now after.now
 
--- `engine_point`: land or water with metres and code, or the number of refusal 1 to 6, as an enum
-abbrev pub Tells : (before after : List ℕ) → ℕ → ℕ → Point → EnginePoint → Type 0
+-- `engine_point`: land or water with metres and code, as an enum, or refusal 1 to 6
+abbrev pub Tells : (before after : List ℕ) → ℕ → ℕ → Point → Result EnginePoint Refusal → Type 0
 Tells file after b z p r = (engine_means r ≡ engine (reading file b z p)) × Unwritten file after
 
 -- `janlishuk_engine_point`: land or water with metres and code, or refusal 1 to 6, as a struct

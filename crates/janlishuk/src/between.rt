@@ -33,7 +33,7 @@ pub fn janlishuk_verdict(
 ) -> VerdictAnswer
     ensures { Judges file.entry.now file.exit.now base zone first second a b result }
 {
-    link::clear::verdict(file, base, zone, first, second, a, b)
+    VerdictAnswer::from(link::clear::verdict(file, base, zone, first, second, a, b))
 }
 
 // The masts, of at most la and lb metres, that make the path clear, with the least sum and, of those,
@@ -49,7 +49,7 @@ pub fn janlishuk_plan(
 ) -> PlanAnswer
     ensures { Plans file.entry.now file.exit.now base zone first second la lb result }
 {
-    plan::plan(file, base, zone, first, second, la, lb)
+    PlanAnswer::from(plan::plan(file, base, zone, first, second, la, lb))
 }
 
 // The height in metres and the share of the way of sample i of the path; or refusal 1 to 8.
@@ -63,5 +63,5 @@ pub fn janlishuk_engine_row(
 ) -> RowAnswer
     ensures { GivesRow file.entry.now file.exit.now base zone first second i result }
 {
-    profile::row::engine_row(file, base, zone, first, second, i)
+    RowAnswer::from(profile::row::engine_row(file, base, zone, first, second, i))
 }

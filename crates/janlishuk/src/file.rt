@@ -10,19 +10,19 @@ use terrain::check::CheckAnswer;
 pub fn janlishuk_check(file: &[u8], base: u32, zone: u32) -> CheckAnswer
     ensures { Checks file.entry.now file.exit.now base zone result }
 {
-    terrain::check::check(file, base, zone)
+    CheckAnswer::from(terrain::check::check(file, base, zone))
 }
 
 // The file's name, four bytes, or refusal 2.
 pub fn janlishuk_name(base: u32, zone: u32) -> NameAnswer
     ensures { Names base zone result }
 {
-    ground::name::file_name(base, zone)
+    NameAnswer::from(ground::name::file_name(base, zone))
 }
 
 // The base of a northing in metres, or refusal 4.
 pub fn janlishuk_base(northing: u32) -> BaseAnswer
     ensures { FindsBase northing result }
 {
-    ground::table::base_of(Metres(northing))
+    BaseAnswer::from(ground::table::base_of(Metres(northing)))
 }

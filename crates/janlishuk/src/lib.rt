@@ -7,6 +7,7 @@ pub use file::{janlishuk_base, janlishuk_check, janlishuk_name};
 pub use ground::measure::Metres;
 pub use ground::name::NameAnswer;
 pub use ground::point::Point;
+pub use ground::refusal::Refusal;
 pub use ground::table::BaseAnswer;
 pub use link::clear::VerdictAnswer;
 pub use plan::PlanAnswer;

@@ -21,7 +21,7 @@ pub fn janlishuk_upload(
         (five_lists eastings.exit.now northings.exit.now heights.new codes.new refusals.new)
         result }
 {
-    survey::upload(
+    UploadAnswer::from(survey::upload(
         file, base, zone, eastings, northings, heights, codes, refusals,
-    )
+    ))
 }

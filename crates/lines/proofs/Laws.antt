@@ -3,7 +3,7 @@
 --     Place        what stands at a place of some bytes, and what is read from a place on
 --     Word         the bytes of a word, read from a place on
 --     Loop         the loops that gather the digits of a name or a number
---     Handed       what the functions hand over of the parts that they read
+--     Steps        what is handed over of a part that is read step by step
 --     Feed         a command is read from the first line of some bytes alone
 --     Reader       what is to be known of a reader of parts, and that parts read one after the other are read so too
 --     Grammar      the parts of a line, and the command, are read as they are spelled
@@ -13,7 +13,7 @@ pub mod Byte
 pub mod Place
 pub mod Word
 pub mod Loop
-pub mod Handed
+pub mod Steps
 pub mod Feed
 pub mod Reader
 pub mod Grammar

@@ -1,71 +1,61 @@
 -- What the functions inside this crate tell each other, on the way to the promise of `read_line`. A reader of the promises may pass over this file.
 -- Assumes nothing.
-use Rattle.std.specs.Prelude.{◌≡◌, true, false, List, ℕ, ◌+◌, ◌≤◌, length}
-use Rattle.lines.specs.Spell.{Command}
-use Rattle.lines.specs.Line.{Part, part, stopped, nothing, two_names, legal, reading}
-use Rattle.lines.specs.Key.{key, keyed}
+use Rattle.std.specs.Prelude.{◌≡◌, cond, ◌&&◌, List, ℕ, ◌+◌, ◌-◌, ◌≤◌, leb, eqb, length, get_or, Option, Some, None, Result, Ok, Err}
+use Rattle.lines.specs.Spell.{Command, in_name}
+use Rattle.lines.specs.Line.{Part, part, stopped, nothing, two_names, reading}
+use Rattle.lines.specs.Key.{letter, key, keyed, keyed_command}
 use Rattle.lines.specs.Text.{line_at}
-use Rattle.lines.specs.declared.word.Word.{Word}
-use Rattle.lines.specs.declared.word.Number.{Number}
-use Rattle.lines.specs.declared.word.Names.{Names}
-use Rattle.lines.specs.declared.Said.{Said}
+use Rattle.lines.specs.declared.word.Token.{Token}
+use Rattle.lines.specs.declared.Line.{Line}
 use Rattle.lines.specs.declared.Read.{Read}
-use Rattle.lines.specs.declared.Line.TheVariants as line
+
+-- a character of a name as a digit of its key; none for another byte
+abbrev pub figure : ℕ → Option ℕ
+figure b = cond (in_name b) (Some (letter b)) None
+
+-- how far the byte at a place is above the first of some, of which it is one, a line feed past the end; the place, where it is none
+abbrev pub byte_from : List ℕ → ℕ → ℕ → ℕ → Result ℕ ℕ
+byte_from bytes at first last = let b = get_or bytes at 10 in cond (leb first b && leb b last) (Ok (b - first)) (Err at)
 
 -- two names, one after the other
 pub record TwoNames : Type 0 where
   pub first : List ℕ
   pub second : List ℕ
 
--- What reading a part from this place on comes to in the program: made from the part's value and the place after it, or from the place of the first
--- byte that is not right.
-abbrev pub found : {A B : Type 0} → (A → ℕ → B) → (ℕ → B) → ℕ → Part A → B
-found right wrong from (part a n) = right a (from + n)
-found right wrong from (stopped k) = wrong (from + k)
+-- What reading a part from this place on comes to in the program: what the part says, as the program has it, and the place after it; or the place of the
+-- first byte that is not right.
+abbrev pub found : {A B : Type 0} → (A → B) → ℕ → Part A → Result (Token B) ℕ
+found says from (part a n) = Ok (record { value = says a; at = from + n })
+found says from (stopped k) = Err (from + k)
 
 -- a name
-abbrev pub a_word : List ℕ → ℕ → Word
-a_word w at = record { right = true; key = key w; at = at }
-
-abbrev pub no_word : ℕ → Word
-no_word at = record { right = false; key = 0; at = at }
-
-abbrev pub word_from : ℕ → Part (List ℕ) → Word
-word_from = found a_word no_word
+abbrev pub word_from : ℕ → Part (List ℕ) → Result (Token ℕ) ℕ
+word_from = found key
 
 -- a number
-abbrev pub a_number : ℕ → ℕ → Number
-a_number v at = record { right = true; value = v; at = at }
-
-abbrev pub no_number : ℕ → Number
-no_number at = record { right = false; value = 0; at = at }
-
-abbrev pub number_from : ℕ → Part ℕ → Number
-number_from = found a_number no_number
+abbrev pub number_from : ℕ → Part ℕ → Result (Token ℕ) ℕ
+number_from = found λ v. v
 
 -- two names
-abbrev pub some_names : TwoNames → ℕ → Names
-some_names t at = record { right = true; first = key t.first; second = key t.second; at = at }
+abbrev pub keys : TwoNames → ℕ × ℕ
+keys t = (key t.first, key t.second)
 
-abbrev pub no_names : ℕ → Names
-no_names at = record { right = false; first = 0; second = 0; at = at }
+abbrev pub names_from : ℕ → Part TwoNames → Result (Token (ℕ × ℕ)) ℕ
+names_from = found keys
 
-abbrev pub names_from : ℕ → Part TwoNames → Names
-names_from = found some_names no_names
+-- a command
+abbrev pub said_from : ℕ → Part Command → Result (Token Line) ℕ
+said_from = found keyed_command
 
--- a command; where there is none, its line is `Bad(0)`
-abbrev pub a_command : Command → ℕ → Said
-a_command c at = record { right = true; line = keyed (legal c); at = at }
+-- a command that was read, where the line ends after it
+abbrev pub ended_from : List ℕ → Result (Token Line) ℕ → Result (Token Line) ℕ
+ended_from bytes (Ok said) = cond (eqb (get_or bytes said.at 10) 10) (Ok said) (Err said.at)
+ended_from bytes (Err at) = Err at
 
-abbrev pub no_command : ℕ → Said
-no_command at = record { right = false; line = line.Bad 0; at = at }
-
-abbrev pub said_from : ℕ → Part Command → Said
-said_from = found a_command no_command
-
--- where the bytes of a word that are right end
-abbrev pub text_from : ℕ → Part ℕ → ℕ
-text_from = found (λ v at. at) λ at. at
+-- where the bytes of a word end; or where those that are right do
+abbrev pub text_from : ℕ → Part ℕ → Result ℕ ℕ
+text_from from (part v n) = Ok (from + n)
+text_from from (stopped k) = Err (from + k)
 
 -- What `read_line` says of the line that begins at a place: its reading, and some place in it, from which on its end is looked for.
 pub record ReadsLine (bytes : List ℕ) (from : ℕ) (r : Read) : Type 0 where

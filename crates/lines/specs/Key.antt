@@ -1,7 +1,7 @@
 -- The number that stands for a name in the program, below 2^64: the characters of a name are the digits 1 to 37 of a number in base 38. That no two names have
 -- one key is shown in proofs/Laws/Key.antt. Assumes nothing.
-use Rattle.std.specs.Prelude.{cond, List, [], ◌∷◌, ℕ, ◌+◌, ◌-◌, ◌*◌, eqb}
-use Rattle.lines.specs.Spell.{«use», site, path, masts, capital, digit}
+use Rattle.std.specs.Prelude.{cond, List, [], ◌∷◌, ℕ, ◌+◌, ◌-◌, ◌*◌, eqb, Result, Ok, Err}
+use Rattle.lines.specs.Spell.{Command, «use», site, path, masts, capital, digit}
 use Rattle.lines.specs.Line.{Reading, legal, bad}
 use Rattle.lines.specs.declared.Line.{Line}
 use Rattle.lines.specs.declared.Line.TheVariants as line
@@ -19,10 +19,14 @@ key_after before (b ∷ w) = key_after (38 * before + letter b) w
 abbrev pub key : List ℕ → ℕ
 key w = key_after 0 w
 
--- a line's reading as the program has it: each name as its key
-abbrev pub keyed : Reading → Line
-keyed (legal («use» base zone)) = line.Use base zone
-keyed (legal (site name easting northing)) = line.Site (key name) easting northing
-keyed (legal (path first second)) = line.Path (key first) (key second)
-keyed (legal (masts first second a b)) = line.Masts (key first) (key second) a b
-keyed (bad column) = line.Bad column
+-- a command as the program has it: each name as its key
+abbrev pub keyed_command : Command → Line
+keyed_command («use» base zone) = line.Use base zone
+keyed_command (site name easting northing) = line.Site (key name) easting northing
+keyed_command (path first second) = line.Path (key first) (key second)
+keyed_command (masts first second a b) = line.Masts (key first) (key second) a b
+
+-- a line's reading as the program has it: the command that it says; or the column at which it is bad
+abbrev pub keyed : Reading → Result Line ℕ
+keyed (legal command) = Ok (keyed_command command)
+keyed (bad column) = Err column

@@ -5,43 +5,37 @@ ghost use Rattle.lines.specs.Text.{line_at};
 ghost use Rattle.lines.specs.Inside.{text_from};
 
 // A line feed, which no command has in it.
-pub const LINE_FEED: u8 = 10;
+pub const LINE_FEED: u8 = b'\n';
 
 // The byte at a place, and a line feed past the end: both end a line.
 pub(crate) fn byte_at(s: &[u8], at: usize) -> u8
     ensures { result ≡ get_or s.now at 10 }
 {
-    if at < s.len() { s[at] } else { LINE_FEED }
+    s.get(at).copied().unwrap_or(LINE_FEED)
 }
 
 // The place after the bytes of the word, where they stand at a place; or the place of the first that
 // does not.
-pub(crate) fn after_word(s: &[u8], from: usize, word: &[u8]) -> usize
+pub(crate) fn after_word(s: &[u8], from: usize, word: &[u8]) -> Result<usize, usize>
     ensures { result ≡ text_from from (text word.now (drop from s.now)) }
 {
-    let mut at = from;
-    let mut i = 0;
-    while i < word.len() {
-        if s.len() <= at {
-            return at;
+    for (i, expected) in word.iter().enumerate() {
+        match s.get(from + i) {
+            Some(byte) if byte == expected => {}
+            _ => return Err(from + i),
         }
-        if s[at] != word[i] {
-            return at;
-        }
-        at += 1;
-        i += 1;
     }
-    at
+    Ok(from + word.len())
 }
 
 // The place of the line feed that ends the line at a place, or the end of the bytes. Four bytes are looked at
-// in a turn, as long as there are so many.
+// in a turn, as long as there are so many: lines are short, and a search by `memchr` takes longer to begin.
 pub fn line_end(s: &[u8], from: usize) -> usize
     ensures { result ≡ from + length (line_at s.now from) }
 {
-    let fours = fours_end(s.len());
-    let mut at = from;
-    while at < fours {
+    let fours = s.len().saturating_sub(from) / 4;
+    for i in 0..fours {
+        let at = from + 4 * i;
         if s[at] == LINE_FEED {
             return at;
         }
@@ -54,28 +48,18 @@ pub fn line_end(s: &[u8], from: usize) -> usize
         if s[at + 3] == LINE_FEED {
             return at + 3;
         }
-        at += 4;
     }
-    last_end(s, at)
-}
-
-// The end of the places from which four bytes are left of so many.
-fn fours_end(length: usize) -> usize
-    ensures { 0 < result → result + 3 ≤ length }
-{
-    if 3 < length { length - 3 } else { 0 }
+    last_end(s, from + 4 * fours)
 }
 
 // The place of the line feed that ends the line at a place, or the end of the bytes, one byte in a turn.
 fn last_end(s: &[u8], from: usize) -> usize
     ensures { result ≡ from + length (line_at s.now from) }
 {
-    let mut at = from;
-    while at < s.len() {
+    for at in from..s.len() {
         if s[at] == LINE_FEED {
             return at;
         }
-        at += 1;
     }
-    at
+    s.len().max(from)
 }

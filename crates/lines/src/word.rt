@@ -1,9 +1,8 @@
-// The words of a line: names and numbers.
+// The words of a line: names and numbers. Each has its own loop: one for both would take the test of a character, the
+// base, the type and the most characters as parameters.
 ghost use Rattle.std.specs.Prelude.{◌≡◌, drop};
-ghost use Rattle.lines.specs.Spell.{digit};
 ghost use Rattle.lines.specs.Line.{name, number, spaced_number};
-ghost use Rattle.lines.specs.Key.{letter};
-ghost use Rattle.lines.specs.Inside.{word_from, number_from, no_names, names_from, both_names};
+ghost use Rattle.lines.specs.Inside.{figure, byte_from, word_from, number_from, names_from, both_names};
 
 use crate::text::byte_at;
 
@@ -14,166 +13,112 @@ const CHARACTERS: u64 = 38;
 const LAST_CAPITAL: u64 = 26;
 
 // The most characters of a name after the first.
-const MORE_CHARACTERS: u32 = 11;
+const MORE_CHARACTERS: usize = 11;
 
 // The most digits of a number after the first.
-const MORE_DIGITS: u32 = 6;
+const MORE_DIGITS: usize = 6;
 
-// A name, as its key, and the place after it; or the place of the first byte that is not right.
+// What some bytes say, and the place after them.
 #[derive(Clone, Copy)]
-pub struct Word {
-    pub right: bool,
-    pub key: u64,
-    pub at: usize,
-}
-
-// A number and the place after it; or the place of the first byte that is not right.
-#[derive(Clone, Copy)]
-pub struct Number {
-    pub right: bool,
-    pub value: u32,
-    pub at: usize,
-}
-
-// Two names, as their keys, and the place after them; or the place of the first byte that is not right.
-#[derive(Clone, Copy)]
-pub struct Names {
-    pub right: bool,
-    pub first: u64,
-    pub second: u64,
+pub struct Token<T> {
+    pub value: T,
     pub at: usize,
 }
 
 // A character of a name as a digit of its key: 1 to 26 for capitals, 27 to 36 for digits, 37 for a
-// hyphen; 0 for any other byte.
-fn letter(b: u8) -> u64
-    ensures { result ≡ letter b }
+// hyphen; none for any other byte.
+#[tactic(auto, unfolding(crate::specs::Key::letter))]
+fn figure(b: u8) -> Option<u64>
+    ensures { result ≡ figure b }
 {
-    if (b'A' <= b) & (b <= b'Z') {
-        (b - 64) as u64
-    } else if is_digit(b) {
-        (b - 21) as u64
+    if b.is_ascii_uppercase() {
+        Some((b - 64) as u64)
+    } else if b.is_ascii_digit() {
+        Some((b - 21) as u64)
     } else if b == b'-' {
-        37
+        Some(37)
     } else {
-        0
+        None
     }
 }
 
-// Whether a byte is a digit.
-pub(crate) fn is_digit(b: u8) -> bool
-    ensures { result ≡ digit b }
+// How far the byte at a place is above the first of some, of which it is one; or the place, where it is none.
+pub(crate) fn read_byte(s: &[u8], at: usize, first: u8, last: u8) -> Result<u32, usize>
+    ensures { result ≡ byte_from s.now at first last }
 {
-    (b'0' <= b) & (b <= b'9')
+    let b = byte_at(s, at);
+    if (first..=last).contains(&b) {
+        Ok((b - first) as u32)
+    } else {
+        Err(at)
+    }
 }
 
 // The NAME at a place.
-pub(crate) fn read_name(s: &[u8], from: usize) -> Word
+pub(crate) fn read_name(s: &[u8], from: usize) -> Result<Token<u64>, usize>
     ensures { result ≡ word_from from (name (drop from s.now)) }
 {
-    let first = letter(byte_at(s, from));
-    if (first == 0) | (LAST_CAPITAL < first) {
-        return Word {
-            right: false,
-            key: 0,
-            at: from,
-        };
+    let Some(first) = figure(byte_at(s, from)) else {
+        return Err(from);
+    };
+    if LAST_CAPITAL < first {
+        return Err(from);
     }
     let mut key = first;
-    let mut at = from + 1;
-    let mut left = MORE_CHARACTERS;
-    while 0 < left {
-        let next = letter(byte_at(s, at));
-        if next == 0 {
-            break;
-        }
+    let end = s.len().min(from + 1 + MORE_CHARACTERS);
+    for at in from + 1..end {
+        let Some(next) = figure(byte_at(s, at)) else {
+            return Ok(Token { value: key, at });
+        };
         key = CHARACTERS * key + next;
-        at += 1;
-        left -= 1;
     }
-    Word {
-        right: true,
-        key,
-        at,
-    }
+    Ok(Token {
+        value: key,
+        at: end,
+    })
 }
 
 // The number at a place.
-pub(crate) fn read_number(s: &[u8], from: usize) -> Number
+pub(crate) fn read_number(s: &[u8], from: usize) -> Result<Token<u32>, usize>
     ensures { result ≡ number_from from (number (drop from s.now)) }
 {
-    let first = byte_at(s, from);
-    if !is_digit(first) {
-        return Number {
-            right: false,
-            value: 0,
-            at: from,
+    let first = read_byte(s, from, b'0', b'9')?;
+    let more = if first == 0 { 0 } else { MORE_DIGITS };
+    let mut value = first;
+    let end = s.len().min(from + 1 + more);
+    for at in from + 1..end {
+        let Ok(next) = read_byte(s, at, b'0', b'9') else {
+            return Ok(Token { value, at });
         };
+        value = 10 * value + next;
     }
-    let mut value = (first - b'0') as u32;
-    let mut at = from + 1;
-    let mut left = if first == b'0' { 0 } else { MORE_DIGITS };
-    while 0 < left {
-        let next = byte_at(s, at);
-        if !is_digit(next) {
-            break;
-        }
-        value = 10 * value + (next - b'0') as u32;
-        at += 1;
-        left -= 1;
-    }
-    Number {
-        right: true,
-        value,
-        at,
-    }
+    Ok(Token { value, at: end })
 }
 
 // The number after a space at a place.
-pub(crate) fn read_spaced_number(s: &[u8], from: usize) -> Number
+#[tactic(auto, using(crate::proofs::Laws::Steps::spaced_steps))]
+pub(crate) fn read_spaced_number(s: &[u8], from: usize) -> Result<Token<u32>, usize>
     ensures { result ≡ number_from from (spaced_number (drop from s.now)) }
 {
     if byte_at(s, from) != b' ' {
-        return Number {
-            right: false,
-            value: 0,
-            at: from,
-        };
+        return Err(from);
     }
     read_number(s, from + 1)
 }
 
 // The two names at a place, with a space between them.
-pub(crate) fn read_two_names(s: &[u8], from: usize) -> Names
+#[inline(always)]
+#[tactic(auto, using(crate::proofs::Laws::Steps::names_steps))]
+pub(crate) fn read_two_names(s: &[u8], from: usize) -> Result<Token<(u64, u64)>, usize>
     ensures { result ≡ names_from from (both_names (drop from s.now)) }
 {
-    let first = read_name(s, from);
-    if !first.right {
-        return wrong_names(first.at);
-    }
+    let first = read_name(s, from)?;
     if byte_at(s, first.at) != b' ' {
-        return wrong_names(first.at);
+        return Err(first.at);
     }
-    let second = read_name(s, first.at + 1);
-    if !second.right {
-        return wrong_names(second.at);
-    }
-    Names {
-        right: true,
-        first: first.key,
-        second: second.key,
+    let second = read_name(s, first.at + 1)?;
+    Ok(Token {
+        value: (first.value, second.value),
         at: second.at,
-    }
-}
-
-// No names: the place of the first byte that is not right.
-fn wrong_names(at: usize) -> Names
-    ensures { result ≡ no_names at }
-{
-    Names {
-        right: false,
-        first: 0,
-        second: 0,
-        at,
-    }
+    })
 }

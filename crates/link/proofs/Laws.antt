@@ -5,3 +5,4 @@
 pub mod Rounding
 pub mod Bounds
 pub mod Demands
+pub mod Between

@@ -7,7 +7,7 @@ use Rattle.path.specs.Path.{ask_masts}
 use Rattle.path.specs.declared.Path.{Path}
 use Rattle.profile.specs.Profile.{Link, sample_of, linked}
 use Rattle.masts.specs.Clear.{rounded_up, clear_by}
-use Rattle.link.specs.declared.clear.SightAnswer.{SightAnswer}
+use Rattle.link.specs.declared.clear.Seen.{Seen}
 use Rattle.link.specs.declared.clear.VerdictAnswer.{VerdictAnswer}
 
 -- A or B, an end with its mast: the height, 250 units of 1/250,000 m per millimetre, rounded down, and 1000 for each metre of the mast
@@ -36,25 +36,10 @@ clear l a b =
 unfoldable pub verdict : List ℕ → ℕ → ℕ → Point → Point → ℕ → ℕ → Outcome Bool
 verdict file base zone first second a b = linked file base zone (ask_masts first second a b) and_then λ l. given (clear l a b)
 
--- what is seen along a path: its N, and whether it is clear
-pub record Sight : Type 0 where
-  pub n : ℕ
-  pub clear : Bool
-
 -- N and the verdict on masts a and b, from one reading of the path: a refusal of `linked`, or both
-unfoldable pub sight : List ℕ → ℕ → ℕ → Point → Point → ℕ → ℕ → Outcome Sight
+unfoldable pub sight : List ℕ → ℕ → ℕ → Point → Point → ℕ → ℕ → Outcome Seen
 sight file base zone first second a b =
     linked file base zone (ask_masts first second a b) and_then λ l. given (record { n = l.path.n; clear = clear l a b })
-
--- N and the verdict as the shell gets them
-abbrev pub sight_answer : Outcome Sight → SightAnswer
-sight_answer o =
-    record {
-      refusal = refusal_number o;
-      place = refusal_place o;
-      n = filled_by 0 (o and_then λ s. given s.n);
-      clear = filled_by 0 (o and_then λ s. given (cond s.clear 1 0));
-    }
 
 -- the answer of `janlishuk_verdict` as the caller gets it: clear is 1 or 0
 abbrev pub verdict_answer : Outcome Bool → VerdictAnswer

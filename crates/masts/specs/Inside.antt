@@ -20,12 +20,14 @@ pub record Sides (n A B : ℕ) (list : List ℕ) : Type 0 where
   pub last : B ≤ most_raised
   pub needs : (i : ℕ) → 1 ≤ i → i < n → get_or list i 0 ≤ most_need
 
--- r is a sample at which the line from A to B is below the need, or n, and then the path is clear
-pub record Blocks (needs : ℕ → ℕ) (n A B r : ℕ) : Type 0 where
-  pub first : 1 ≤ r
-  pub most : r ≤ n
-  pub blocked : r < n → line n A B r < needs r
-  pub clear : n ≤ r → clear_by needs n A B ≡ true
+-- i is a sample between the ends
+abbrev pub IsBetween : (n i : ℕ) → Type 0
+IsBetween n i = (1 ≤ i) × (i < n)
+
+-- i is a sample between the ends at which the line from A to B is below the need
+pub record BlockedAt (needs : ℕ → ℕ) (n A B i : ℕ) : Type 0 where
+  pub between : IsBetween n i
+  pub blocked : line n A B i < needs i
 
 -- with some second mast, within its bound, the path is clear
 pub record SomeSecond (needs : ℕ → ℕ) (n A B : ℕ) : Type 0 where

@@ -1,10 +1,8 @@
 -- Demand 3, sentence by sentence, of any test that says which pairs of masts are clear; and an executable form of it. Assumes nothing.
-use Rattle.std.specs.Prelude.{ℕ, ◌+◌, ◌-◌, ◌≤◌, ◌≡◌, Bool, true, ◌&&◌, leb, ltb}
+use Rattle.std.specs.Prelude.{ℕ, ◌+◌, ◌-◌, ◌≤◌, ◌≡◌, Bool, true, ◌&&◌, leb, ltb, Option, Some, None}
 use Rattle.ground.specs.Outcome.{Outcome, given, refused, unless}
 use Rattle.path.specs.First.{first_from}
 use Rattle.masts.specs.declared.Masts.{Masts}
-use Rattle.masts.specs.declared.Planned.{Planned}
-use Rattle.masts.specs.declared.Planned.TheVariants as planned
 
 -- a clear pair of whole-metre masts within the limits
 pub record Pair (clears : ℕ → ℕ → Bool) (la lb a b : ℕ) : Type 0 where
@@ -30,10 +28,10 @@ abbrev pub Demand3 : (ℕ → ℕ → Bool) → ℕ → ℕ → Outcome Masts �
 Demand3 clears la lb (given m) = Best clears la lb m
 Demand3 clears la lb (refused number place) = ((number ≡ 9) × (place ≡ 0)) × NoPair clears la lb
 
--- what each case of `Planned` means
-abbrev pub planned_means : Planned → Outcome Masts
-planned_means (planned.Pair m) = given m
-planned_means planned.None = refused 9 0
+-- what the search for a pair comes to: the pair that it found, or refusal 9
+abbrev pub planned_means : Option Masts → Outcome Masts
+planned_means (Some m) = given m
+planned_means None = refused 9 0
 
 -- The executable form of demand 3 is the first clear pair by its sum and then by its first mast. `first_mast` is the lowest first mast of a clear pair of
 -- this sum, or sum + 1.

@@ -14,6 +14,7 @@ ghost use Rattle.masts.specs.Plan.{Demand3, planned_means};
 ghost use Rattle.masts.specs.Inside.{Sides};
 
 use path::ROOM;
+use path::line::Line;
 use sight::IN_A_METRE;
 
 pub mod sight;
@@ -25,43 +26,38 @@ pub struct Masts {
     pub second: u32,
 }
 
-// What the search comes to: a pair of masts, or none.
-#[derive(Clone, Copy)]
-pub enum Planned {
-    Pair(Masts),
-    None,
-}
-
 // The clear pair within the limits la and lb with the least sum and, of those, the lowest first mast;
-// or none. `first` and `last` are the ends without masts, in millimetres. `sum` is the least sum so
-// far, or la + lb + 1 before a pair is found; `mast` is its first mast; `tried` is the sample that
-// blocked last, or 0.
-pub fn search(n: u32, first: u32, last: u32, needs: &[u32; ROOM], la: u32, lb: u32) -> Planned
-    requires { Sides n (first + 1000 * la) (last + 1000 * lb) needs.now × ((la ≤ tallest) × (lb ≤ tallest)) }
-    ensures { Demand3 (λ a b. clear_by (λ i. get_or needs.now i 0) n (first + 1000 * a) (last + 1000 * b)) la lb (planned_means result) }
+// or none. The line is that between the ends without masts, in millimetres. `sum` is the least sum so
+// far, or la + lb + 1 before a pair is found; `tried` is the sample that blocked last.
+pub fn search(line: Line, needs: &[u32; ROOM], la: u32, lb: u32) -> Option<Masts>
+    requires { Sides line.n (line.from + 1000 * la) (line.to + 1000 * lb) needs.now × ((la ≤ tallest) × (lb ≤ tallest)) }
+    ensures { Demand3 (λ a b. clear_by (λ i. get_or needs.now i 0) line.n (line.from + 1000 * a) (line.to + 1000 * b)) la lb (planned_means result) }
 {
+    let mut best = None;
     let mut sum = la + lb + 1;
-    let mut mast = 0;
-    let mut tried = 0;
-    let mut a = 0;
-    while (a <= la) & (a < sum) {
-        let smaller = sum - 1 - a;
-        let most = if lb < smaller { lb } else { smaller };
-        let raised = first + IN_A_METRE * a;
-        let at = sight::blocked_at(n, raised, last + IN_A_METRE * most, needs, tried);
-        if at < n {
-            tried = at;
-        } else {
-            sum = a + sight::least_second(n, raised, last, needs);
-            mast = a;
+    let mut tried = None;
+    for a in 0..=la {
+        if sum <= a {
+            break;
         }
-        a += 1;
+        let smaller = sum - 1 - a;
+        let most = lb.min(smaller);
+        let raised = Line {
+            from: line.from + IN_A_METRE * a,
+            ..line
+        };
+        let highest = Line {
+            to: line.to + IN_A_METRE * most,
+            ..raised
+        };
+        match sight::blocked_at(highest, needs, tried) {
+            Some(at) => tried = Some(at),
+            None => {
+                let second = sight::least_second(raised, needs);
+                sum = a + second;
+                best = Some(Masts { first: a, second });
+            }
+        }
     }
-    if la + lb < sum {
-        return Planned::None;
-    }
-    Planned::Pair(Masts {
-        first: mast,
-        second: sum - mast,
-    })
+    best
 }

@@ -1,7 +1,7 @@
 -- The path of a link: its ends, how many samples it has, and where each lies. Document 01, "A path" and "The numbers we say no with".
 -- Assumes nothing.
 use Rattle.std.specs.Prelude.{ℕ, ◌+◌, ◌-◌, ◌*◌, ◌/◌, ◌≤◌, Bool, not, ◌||◌, leb, ltb, eqb}
-use Rattle.ground.specs.Outcome.{Outcome, given, refused, unless}
+use Rattle.ground.specs.Outcome.{Outcome, given, unless}
 use Rattle.ground.specs.Measure.{metres}
 use Rattle.ground.specs.Ground.{holds}
 use Rattle.ground.specs.declared.Ground.{Ground}
@@ -9,8 +9,6 @@ use Rattle.ground.specs.declared.point.Point.{Point}
 use Rattle.path.specs.First.{first_from}
 use Rattle.path.specs.declared.Path.{Path}
 use Rattle.path.specs.declared.Asked.{Asked}
-use Rattle.path.specs.declared.Found.{Found}
-use Rattle.path.specs.declared.Found.TheVariants as found
 
 -- how far two numbers are apart
 abbrev pub apart : ℕ → ℕ → ℕ
@@ -99,8 +97,3 @@ path_on g asked =
     (unless (too_short_or_long w.q) 7
     (unless (over_asked w.n asked.a asked.b asked.i) 8
     (given w))))
-
--- what each case of `Found` means
-abbrev pub found_means : Found → Outcome Path
-found_means (found.Path w) = given w
-found_means (found.Refused number) = refused number 0

@@ -20,6 +20,11 @@ plan_answer o =
       second = m.second;
     }
 
+-- o is a permitted outcome of the plan: one that demand 3 allows for the link, or, where no link is given, the refusal that came before
+abbrev pub Planned : Outcome Link → ℕ → ℕ → Outcome Masts → Type 0
+Planned (given l) la lb o = Demand3 (clear l) la lb o
+Planned (refused number place) la lb o = o ≡ refused number place
+
 -- r is an answer that demand 3 allows for the clear test of this link
 pub record Allowed (l : Link) (la lb : ℕ) (r : PlanAnswer) : Type 0 where
   pub outcome : Outcome Masts

@@ -3,21 +3,21 @@
 
 ghost use Rattle.std.specs.Prelude.{◌≡◌, ◌≤◌, length};
 ghost use Rattle.path.specs.Path.{ask_masts, tallest};
-ghost use Rattle.profile.specs.Profile.{link_of, linked};
-ghost use Rattle.profile.specs.Inside.{SoundLink};
+ghost use Rattle.profile.specs.Profile.{link_of, linked, path_outcome_of};
 ghost use Rattle.masts.specs.Plan.{Demand3, planned_means};
 ghost use Rattle.link.specs.Clear.{need, clear};
-ghost use Rattle.plan.specs.Plan.{plan_answer, Plan};
+ghost use Rattle.plan.specs.Plan.{plan_answer, Planned};
 ghost use Rattle.plan.specs.Inside.{Needed};
 
 use ground::point::Point;
-use link::clear;
-use masts::Planned;
-use path::{Asked, Path, ROOM};
+use ground::refusal::Refusal;
+use link::clear::Link;
+use masts::Masts;
+use path::{Asked, ROOM};
 use profile::samples;
-use profile::samples::Sampled;
+use profile::samples::{PathRefusal, Samples};
 
-// The plan: its two masts; or a refusal.
+// The two masts of a plan, or a refusal, as C gets it.
 #[repr(C)]
 #[derive(Clone, Copy)]
 pub struct PlanAnswer {
@@ -27,46 +27,46 @@ pub struct PlanAnswer {
     pub second: u32,
 }
 
-// Writes what each sample between the ends needs.
-fn find_needs(path: Path, heights: &[u32; ROOM], codes: &[u8; ROOM], needs: &mut [u32; ROOM])
-    requires { SoundLink (link_of path heights.now codes.now) × (length needs.old ≡ 201) }
-    ensures { Needed (need (link_of path heights.now codes.now)) path.n needs.new }
-{
-    for i in 1..path.n {
-        needs[i as usize] = clear::need(path, heights, codes, i);
+impl From<Result<Masts, PathRefusal>> for PlanAnswer {
+    ghost from_gives = { λ planned answer. answer ≡ plan_answer (path_outcome_of planned) };
+
+    fn from(planned: Result<Masts, PathRefusal>) -> PlanAnswer {
+        match planned {
+            Ok(masts) => PlanAnswer {
+                refusal: 0,
+                place: 0,
+                first: masts.first,
+                second: masts.second,
+            },
+            Err(met) => PlanAnswer {
+                refusal: met.refusal.number(),
+                place: met.place,
+                first: 0,
+                second: 0,
+            },
+        }
     }
 }
 
-// The plan of a path with its profile.
-fn plan_of(path: Path, heights: &[u32; ROOM], codes: &[u8; ROOM], la: u32, lb: u32) -> Planned
-    requires { SoundLink (link_of path heights.now codes.now) × ((la ≤ tallest) × (lb ≤ tallest)) }
-    ensures { Demand3 (clear (link_of path heights.now codes.now)) la lb (planned_means result) }
+// Writes what each sample between the ends needs, by its number: of a loop over the places themselves nothing is
+// known afterwards.
+fn find_needs(link: &Link, needs: &mut [u32; ROOM])
+    requires { length needs.old ≡ 201 }
+    ensures { Needed (need (link_of link.now.path link.now.samples.now)) link.now.path.n needs.new }
+{
+    for i in 1..link.path.n {
+        needs[i as usize] = link.need(i);
+    }
+}
+
+// The plan of a link, where there is a pair.
+fn plan_of(link: &Link, la: u32, lb: u32) -> Option<Masts>
+    requires { (la ≤ tallest) × (lb ≤ tallest) }
+    ensures { Demand3 (clear (link_of link.now.path link.now.samples.now)) la lb (planned_means result) }
 {
     let mut needs = [0u32; ROOM];
-    find_needs(path, heights, codes, &mut needs);
-    let first = clear::raised(clear::sample_of(heights, codes, 0), 0);
-    let last = clear::raised(clear::sample_of(heights, codes, path.n), 0);
-    masts::search(path.n, first, last, &needs, la, lb)
-}
-
-// The plan as the caller gets it: the pair of masts, or refusal 9.
-fn answer(planned: Planned) -> PlanAnswer
-    ensures { result ≡ plan_answer (planned_means planned) }
-{
-    match planned {
-        Planned::Pair(masts) => PlanAnswer {
-            refusal: 0,
-            place: 0,
-            first: masts.first,
-            second: masts.second,
-        },
-        Planned::None => PlanAnswer {
-            refusal: 9,
-            place: 0,
-            first: 0,
-            second: 0,
-        },
-    }
+    find_needs(link, &mut needs);
+    masts::search(link.line(0, 0), &needs, la, lb)
 }
 
 // The masts of the path between two points of a file, of at most la and lb metres, with the least sum
@@ -79,25 +79,16 @@ pub fn plan(
     second: Point,
     la: u32,
     lb: u32,
-) -> PlanAnswer
-    ensures { Plan (linked file.now base zone (ask_masts first second la lb)) la lb result }
+) -> Result<Masts, PathRefusal>
+    ensures { Planned (linked file.now base zone (ask_masts first second la lb)) la lb (path_outcome_of result) }
 {
-    let mut heights = [0u32; ROOM];
-    let mut codes = [0u8; ROOM];
-    let asked = Asked {
-        first,
-        second,
-        a: la,
-        b: lb,
-        i: 0,
+    let mut samples = Samples::none();
+    let asked = Asked::masts(first, second, la, lb);
+    let path = samples::read_samples(file, base, zone, asked, &mut samples)?;
+    let link = Link {
+        path,
+        samples: &samples,
     };
-    match samples::read_samples(file, base, zone, asked, &mut heights, &mut codes) {
-        Sampled::Whole(path) => answer(plan_of(path, &heights, &codes, la, lb)),
-        Sampled::Refused(refusal, place) => PlanAnswer {
-            refusal,
-            place,
-            first: 0,
-            second: 0,
-        },
-    }
+    let masts = plan_of(&link, la, lb).ok_or(Refusal::NoPair)?;
+    Ok(masts)
 }

@@ -1,8 +1,7 @@
 // What the program says of itself.
-use crate::folder::PATH;
 
-// What lines there are and what each is answered. With the other answers they are a screenful.
-const LINES: [&str; 11] = [
+// What lines there are and what each is answered, and what else is answered: a screenful.
+const LINES: [&str; 22] = [
     "planshell [FOLDER]: plans radio links over the terrain files of a folder.",
     "",
     "use NK17                  use 40 17      NK17 is in use: its base and zone",
@@ -14,10 +13,6 @@ const LINES: [&str; 11] = [
     "",
     "A name is a capital letter, then up to 11 capitals, digits or hyphens.",
     "",
-];
-
-// What else is answered.
-const OTHERS: [&str; 11] = [
     "taken      a site has that name",
     "full       there are 32 sites",
     "unknown    no site has that name",
@@ -31,35 +26,16 @@ const OTHERS: [&str; 11] = [
     "refused 8  a limit is above 100 m       refused 9  no two masts are enough",
 ];
 
-// Whether the first `length` bytes of the path are `--help`.
-pub(crate) fn is_asked(path: &[u8; PATH], length: usize) -> bool {
-    (length == 6)
-        & (path[0] == b'-')
-        & (path[1] == b'-')
-        & (path[2] == b'h')
-        & (path[3] == b'e')
-        & (path[4] == b'l')
-        & (path[5] == b'p')
+// Whether the argument is `--help`.
+pub(crate) fn is_asked(argument: &[u8]) -> bool {
+    argument == b"--help".as_slice()
 }
 
-// Writes a line of the help, as far as the output takes it.
-fn line(rt: &impl Print, text: &str) {
-    let _ = rt.write_all(text.as_bytes());
-    let _ = rt.write_all(b"\n");
-}
-
-// Shows the lines and the answers, in a screenful.
+// Shows the lines and the answers, as far as the output takes them.
 pub(crate) fn show(rt: &impl Print) {
     for text in LINES {
-        line(rt, text);
-    }
-    show_others(rt);
-}
-
-// Shows the other answers.
-fn show_others(rt: &impl Print) {
-    for text in OTHERS {
-        line(rt, text);
+        let _ = rt.write_all(text.as_bytes());
+        let _ = rt.write_all(b"\n");
     }
 }
 

@@ -8,10 +8,11 @@ mod folder;
 mod help;
 mod session;
 
+use folder::Folder;
 use std::env::{Env, FillError};
 
-// Puts an argument at the start of the buffer and gives its length, 0 where it is longer than the buffer;
-// `None` where there is no such argument.
+// Puts an argument at the start of the buffer and gives its length, 0 where it is longer than the buffer, since it
+// is complained of as the empty one is; `None` where there is no such argument.
 fn argument(rt: &impl Env, i: usize, buf: &mut [u8]) -> Option<usize>
     ensures bound { IfSome result (λ n. n ≤ length buf.new) }
     ensures room { length buf.new ≡ length buf.old }
@@ -31,26 +32,23 @@ fn is_given(rt: &impl Env, i: usize) -> bool {
 
 // Runs a session; or shows the help; or says on standard error what is wrong with the arguments.
 fn main(rt: HostRuntime) {
-    let mut path = [0u8; folder::PATH];
-    let Some(length) = argument(&rt, 1, &mut path) else {
-        session::serve(&rt, &mut rt.stdin(), &mut path, 0);
-        return;
-    };
-    if help::is_asked(&path, length) {
-        help::show(&rt);
-        return;
+    let mut room = [0u8; folder::PATH];
+    let mut folder = Folder::here();
+    if let Some(length) = argument(&rt, 1, &mut room) {
+        let name = &room[..length];
+        if help::is_asked(name) {
+            help::show(&rt);
+            return;
+        }
+        if is_given(&rt, 2) {
+            help::complain_of_more(&rt.stderr());
+            return;
+        }
+        let Some(named) = Folder::find(&rt, name) else {
+            help::complain(&rt.stderr(), name);
+            return;
+        };
+        folder = named;
     }
-    if is_given(&rt, 2) {
-        help::complain_of_more(&rt.stderr());
-        return;
-    }
-    if folder::LONGEST < length || length == 0 {
-        help::complain(&rt.stderr(), &path[..length]);
-        return;
-    }
-    if !folder::is_folder(&rt, &mut path, length) {
-        help::complain(&rt.stderr(), &path[..length]);
-        return;
-    }
-    session::serve(&rt, &mut rt.stdin(), &mut path, length + 1);
+    let _ = session::serve(&rt, &mut rt.stdin(), &mut folder);
 }

@@ -7,3 +7,4 @@ pub mod Profile
 pub mod Link
 pub mod Row
 pub mod Witness
+pub mod Refused

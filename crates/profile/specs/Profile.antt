@@ -1,6 +1,7 @@
 -- The profile of a path. Document 01, "A path" and "The numbers we say no with". Assumes nothing.
-use Rattle.std.specs.Prelude.{ℕ, zero, suc, ◌+◌, List, get_or, set, replicate}
+use Rattle.std.specs.Prelude.{ℕ, zero, suc, ◌+◌, List, get_or, set, replicate, Result, Ok, Err, ⊤}
 use Rattle.ground.specs.Outcome.{Outcome, given, refused, ◌and_then◌, refusal_number, refusal_place, filled_by}
+use Rattle.ground.specs.Refusal.{number}
 use Rattle.ground.specs.declared.point.Point.{Point}
 use Rattle.terrain.specs.Check.{checked}
 use Rattle.reading.specs.Reading.{point_in}
@@ -9,8 +10,8 @@ use Rattle.reading.specs.declared.point.Reading.{Reading}
 use Rattle.path.specs.Path.{ask_path, sample, path_on}
 use Rattle.path.specs.declared.Path.{Path}
 use Rattle.path.specs.declared.Asked.{Asked}
-use Rattle.profile.specs.declared.samples.Sampled.{Sampled}
-use Rattle.profile.specs.declared.samples.Sampled.TheVariants as sampled
+use Rattle.profile.specs.declared.samples.PathRefusal.{PathRefusal}
+use Rattle.profile.specs.declared.samples.Samples.{Samples}
 use Rattle.profile.specs.declared.ProfileAnswer.{ProfileAnswer}
 
 -- one value with room for 201 samples, exact height and code each, beside N
@@ -62,14 +63,34 @@ link_in file t w = profile_by (λ i. point_in file t (sample w i)) w.n and_then 
 unfoldable pub linked : List ℕ → ℕ → ℕ → Asked → Outcome Link
 linked file base zone asked = checked file base zone and_then λ t. path_on t.ground asked and_then link_in file t
 
--- the link of a path, and of the heights and codes that were read
-abbrev pub link_of : Path → List ℕ → List ℕ → Link
-link_of w heights codes = record { path = w; profile = record { n = w.n; heights = heights; codes = codes } }
+-- what an answer about a path comes to: a refusal has its number, and the place where it was met
+abbrev pub path_outcome_of : {A : Type 0} → Result A PathRefusal → Outcome A
+path_outcome_of (Ok a) = given a
+path_outcome_of (Err r) = refused (number r.refusal) r.place
 
--- what each case of `Sampled` means, beside the lists of heights and codes
-abbrev pub sampled_means : Sampled → List ℕ → List ℕ → Outcome Link
-sampled_means (sampled.Whole w) heights codes = given (link_of w heights codes)
-sampled_means (sampled.Refused number place) heights codes = refused number place
+-- a place for samples of which none is read yet
+abbrev pub none_read : Samples
+none_read = record { heights = zeros; codes = zeros }
+
+-- the samples with a reading put in at sample i
+abbrev pub put_in : Samples → ℕ → Reading → Samples
+put_in s i r = record { heights = set s.heights i r.height; codes = set s.codes i r.code }
+
+-- what was read at sample i
+abbrev pub read_at : Samples → ℕ → Reading
+read_at s i = record { height = get_or s.heights i 0; code = get_or s.codes i 0 }
+
+-- the link of a path, and of the samples that were read
+abbrev pub link_of : Path → Samples → Link
+link_of w s = record { path = w; profile = record { n = w.n; heights = s.heights; codes = s.codes } }
+
+-- what reading a path and its samples comes to: the path came back, or a refusal
+abbrev pub sampled_means : Result Path PathRefusal → Samples → Outcome Link
+sampled_means r s = path_outcome_of r and_then λ w. given (link_of w s)
+
+-- what reading the samples of a path comes to
+abbrev pub walked_means : Path → Result ⊤ PathRefusal → Samples → Outcome Link
+walked_means w r s = path_outcome_of r and_then λ u. given (link_of w s)
 
 -- the profile of the path between two points
 unfoldable pub profile : List ℕ → ℕ → ℕ → Point → Point → Outcome Profile

@@ -6,7 +6,7 @@ ghost use Rattle.profile.specs.Profile.{profile, profile_answer};
 
 use ground::point::Point;
 use path::{Asked, ROOM};
-use samples::Sampled;
+use samples::Samples;
 
 pub mod row;
 pub mod samples;
@@ -22,30 +22,23 @@ pub struct ProfileAnswer {
     pub codes: [u8; ROOM],
 }
 
-// The profile of the path between two points of a file, or refusal 1 to 7.
+// The profile of the path between two points of a file, or refusal 1 to 7. It fills C's struct itself: a `Result`
+// of a kilobyte beside that would stand on the stack twice, of which C is promised that no call takes 8 KB.
 pub fn profile(file: &[u8], base: u32, zone: u32, first: Point, second: Point) -> ProfileAnswer
     ensures { result ≡ profile_answer (profile file.now base zone first second) }
 {
-    let mut heights = [0u32; ROOM];
-    let mut codes = [0u8; ROOM];
-    let asked = Asked {
-        first,
-        second,
-        a: 0,
-        b: 0,
-        i: 0,
-    };
-    match samples::read_samples(file, base, zone, asked, &mut heights, &mut codes) {
-        Sampled::Whole(path) => ProfileAnswer {
+    let mut samples = Samples::none();
+    match samples::read_samples(file, base, zone, Asked::path(first, second), &mut samples) {
+        Ok(path) => ProfileAnswer {
             refusal: 0,
             place: 0,
             n: path.n,
-            heights,
-            codes,
+            heights: samples.heights,
+            codes: samples.codes,
         },
-        Sampled::Refused(refusal, place) => ProfileAnswer {
-            refusal,
-            place,
+        Err(met) => ProfileAnswer {
+            refusal: met.refusal.number(),
+            place: met.place,
             n: 0,
             heights: [0; ROOM],
             codes: [0; ROOM],

@@ -1,11 +1,12 @@
 // The rows for the prediction engine.
 ghost use Rattle.std.specs.Prelude.{◌≡◌};
+ghost use Rattle.profile.specs.Profile.{path_outcome_of};
 ghost use Rattle.profile.specs.Row.{share, IsRow, row, row_answer};
 
 use crate::samples;
-use crate::samples::Sampled;
+use crate::samples::{PathRefusal, Samples};
 use ground::point::Point;
-use path::{Asked, ROOM};
+use path::Asked;
 
 // A sample for the engine: its height in metres, and its share of the way.
 #[repr(C)]
@@ -15,7 +16,7 @@ pub struct Row {
     pub share: f64,
 }
 
-// The row; or a refusal, and both doubles 0.
+// A row; or a refusal, and both doubles 0; as C gets it.
 #[repr(C)]
 #[derive(Clone, Copy)]
 pub struct RowAnswer {
@@ -24,11 +25,33 @@ pub struct RowAnswer {
     pub row: Row,
 }
 
+impl From<Result<Row, PathRefusal>> for RowAnswer {
+    ghost from_gives = { λ row answer. answer ≡ row_answer (path_outcome_of row) };
+
+    fn from(row: Result<Row, PathRefusal>) -> RowAnswer {
+        match row {
+            Ok(row) => RowAnswer {
+                refusal: 0,
+                place: 0,
+                row,
+            },
+            Err(met) => RowAnswer {
+                refusal: met.refusal.number(),
+                place: met.place,
+                row: Row {
+                    height: 0.0,
+                    share: 0.0,
+                },
+            },
+        }
+    }
+}
+
 // The share of the way at sample i of n: i divided once by n.
 fn share_of(i: u32, n: u32) -> f64
     ensures { result ≡ share i n }
 {
-    i as f64 / n as f64
+    f64::from(i) / f64::from(n)
 }
 
 // The row of sample i of n, at this exact height.
@@ -49,31 +72,11 @@ pub fn engine_row(
     first: Point,
     second: Point,
     i: u32,
-) -> RowAnswer
-    ensures { result ≡ row_answer (row file.now base zone first second i) }
+) -> Result<Row, PathRefusal>
+    ensures { path_outcome_of result ≡ row file.now base zone first second i }
 {
-    let mut heights = [0u32; ROOM];
-    let mut codes = [0u8; ROOM];
-    let asked = Asked {
-        first,
-        second,
-        a: 0,
-        b: 0,
-        i,
-    };
-    match samples::read_samples(file, base, zone, asked, &mut heights, &mut codes) {
-        Sampled::Whole(path) => RowAnswer {
-            refusal: 0,
-            place: 0,
-            row: row_at(heights[i as usize], i, path.n),
-        },
-        Sampled::Refused(refusal, place) => RowAnswer {
-            refusal,
-            place,
-            row: Row {
-                height: 0.0,
-                share: 0.0,
-            },
-        },
-    }
+    let mut samples = Samples::none();
+    let asked = Asked::sample(first, second, i);
+    let path = samples::read_samples(file, base, zone, asked, &mut samples)?;
+    Ok(row_at(samples.at(i).height, i, path.n))
 }

@@ -1,62 +1,101 @@
-// The samples of a path, read into two lists that the caller lends: heights and codes.
-ghost use Rattle.std.specs.Prelude.{◌≡◌};
+// The samples of a path, read into a place that the caller lends.
+ghost use Rattle.std.specs.Prelude.{◌≡◌, ◌≤◌};
 ghost use Rattle.terrain.specs.Check.{Gave};
 ghost use Rattle.path.specs.Inside.{SoundPath};
-ghost use Rattle.profile.specs.Profile.{zeros, link_in, sampled_means, linked};
+ghost use Rattle.profile.specs.Profile.{none_read, put_in, read_at, link_in, walked_means, sampled_means, linked};
 
-use path::{Asked, Found, Path, ROOM};
-use terrain::check::{Checked, Terrain};
+use ground::refusal::Refusal;
+use path::{Asked, Path, ROOM};
+use reading::point;
+use reading::point::Reading;
+use terrain::check;
+use terrain::check::Terrain;
 
-// What reading a path's samples comes to: the path, or a refusal's number and place.
-#[derive(Clone, Copy)]
-pub enum Sampled {
-    Whole(Path),
-    Refused(u32, u32),
+// A refusal of a call on a path, and its place: the sample's number where it was met at a sample, else 0.
+#[derive(Clone, Copy, Debug, PartialEq, Eq)]
+pub struct PathRefusal {
+    pub refusal: Refusal,
+    pub place: u32,
 }
 
-// Reads samples 0 to N of a path of a checked file, each into its place in the lists, and gives the
-// path back; or the first refusal, 4, 5 or 6, with the sample's number.
-fn walk(
-    file: &[u8],
-    terrain: Terrain,
-    path: Path,
-    heights: &mut [u32; ROOM],
-    codes: &mut [u8; ROOM],
-) -> Sampled
-    requires { Gave file.now terrain × (SoundPath path × ((heights.old ≡ zeros) × (codes.old ≡ zeros))) }
-    ensures { sampled_means result heights.new codes.new ≡ link_in file.now terrain path }
-{
-    let mut i = 0;
-    while i <= path.n {
-        let read = reading::point::read_in(file, terrain, path.sample(i));
-        if read.refusal != 0 {
-            return Sampled::Refused(read.refusal, i);
-        }
-        heights[i as usize] = read.height;
-        codes[i as usize] = read.code as u8;
-        i += 1;
+impl From<Refusal> for PathRefusal {
+    ghost from_gives = { λ refusal met. met ≡ record { refusal = refusal; place = 0 } };
+
+    fn from(refusal: Refusal) -> PathRefusal {
+        PathRefusal { refusal, place: 0 }
     }
-    Sampled::Whole(path)
+}
+
+// What was read at the samples of a path, the exact height and the surface code of each; unused places are 0. Two
+// arrays, since C gets them so.
+#[derive(Drop)]
+pub struct Samples {
+    pub heights: [u32; ROOM],
+    pub codes: [u8; ROOM],
+}
+
+impl Samples {
+    // A place for samples of which none is read yet.
+    #[tactic(auto, unfolding(crate::specs::Profile::zeros))]
+    pub fn none() -> Samples
+        ensures { result ≡ none_read }
+    {
+        Samples {
+            heights: [0; ROOM],
+            codes: [0; ROOM],
+        }
+    }
+
+    // Puts in what was read at sample i.
+    pub fn put(&mut self, i: u32, reading: Reading)
+        requires { i ≤ 200 }
+        ensures { self.new ≡ put_in self.old i reading }
+    {
+        self.heights[i as usize] = reading.height;
+        self.codes[i as usize] = reading.code;
+    }
+
+    // What was read at sample i: its exact height and its surface code.
+    pub fn at(&self, i: u32) -> Reading
+        requires { i ≤ 200 }
+        ensures { result ≡ read_at self.now i }
+    {
+        Reading {
+            height: self.heights[i as usize],
+            code: self.codes[i as usize],
+        }
+    }
+}
+
+// Reads samples 0 to N of a path of a checked file, each into its place; or the first refusal, 4, 5 or 6,
+// with the sample's number.
+fn walk(file: &[u8], terrain: Terrain, path: Path, samples: &mut Samples) -> Result<(), PathRefusal>
+    requires { Gave file.now terrain × (SoundPath path × (samples.old ≡ none_read)) }
+    ensures { walked_means path result samples.new ≡ link_in file.now terrain path }
+{
+    for i in 0..=path.n {
+        match point::read_in(file, terrain, path.sample(i)) {
+            Ok(reading) => samples.put(i, reading),
+            Err(refusal) => return Err(PathRefusal { refusal, place: i }),
+        }
+    }
+    Ok(())
 }
 
 // Reads the samples of the path between two points of a file, and gives the path back; or the first
-// refusal of 1 to 8 in the order of checks. The lists must be all 0 when it is called.
+// refusal of 1 to 8 in the order of checks. No sample may be read yet when it is called.
 pub fn read_samples(
     file: &[u8],
     base: u32,
     zone: u32,
     asked: Asked,
-    heights: &mut [u32; ROOM],
-    codes: &mut [u8; ROOM],
-) -> Sampled
-    requires { (heights.old ≡ zeros) × (codes.old ≡ zeros) }
-    ensures { sampled_means result heights.new codes.new ≡ linked file.now base zone asked }
+    samples: &mut Samples,
+) -> Result<Path, PathRefusal>
+    requires { samples.old ≡ none_read }
+    ensures { sampled_means result samples.new ≡ linked file.now base zone asked }
 {
-    match terrain::check::check_file(file, base, zone) {
-        Checked::Passed(terrain) => match path::find(terrain.ground, asked) {
-            Found::Path(path) => walk(file, terrain, path, heights, codes),
-            Found::Refused(number) => Sampled::Refused(number, 0),
-        },
-        Checked::Refused(number) => Sampled::Refused(number, 0),
-    }
+    let terrain = check::check_file(file, base, zone)?;
+    let path = path::find(terrain.ground, asked)?;
+    walk(file, terrain, path, samples)?;
+    Ok(path)
 }

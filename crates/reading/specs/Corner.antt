@@ -1,8 +1,6 @@
 -- The four corners around a point. Document 01, "A reading". Assumes nothing.
 use Rattle.std.specs.Prelude.{Bool, cond, ◌||◌, List, ℕ, ◌+◌, ◌*◌, eqb}
-use Rattle.ground.specs.Place.{words_of}
-use Rattle.ground.specs.declared.place.Words.{Words}
-use Rattle.ground.specs.declared.place.Weights.{Weights}
+use Rattle.ground.specs.Place.{Words, Weights, words_of}
 use Rattle.index.specs.Bytes.{nth, record_bytes}
 use Rattle.terrain.specs.Word.{code_of, elevation_of}
 use Rattle.terrain.specs.declared.record.Taken.{Taken}

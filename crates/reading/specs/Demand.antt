@@ -6,12 +6,10 @@ use Rattle.std.specs.Prelude.{◌≡◌, ◌⊎◌, true, cond, List, ℕ, ◌+�
 use Rattle.ground.specs.Outcome.{given}
 use Rattle.ground.specs.Boundary.{rows}
 use Rattle.ground.specs.Ground.{ground_of}
-use Rattle.ground.specs.Place.{words_of, place_of, AtEach}
+use Rattle.ground.specs.Place.{Words, Weights, words_of, place_of, AtEach}
 use Rattle.ground.specs.Seam.{GridHolds}
 use Rattle.ground.specs.declared.point.Point.{Point}
 use Rattle.ground.specs.declared.place.Place.{Place}
-use Rattle.ground.specs.declared.place.Words.{Words}
-use Rattle.ground.specs.declared.place.Weights.{Weights}
 use Rattle.index.specs.Bytes.{record_bytes}
 use Rattle.terrain.specs.Record.{entry, covered, taken, rectangle_of}
 use Rattle.terrain.specs.Word.{code_of, elevation_of, word_of}

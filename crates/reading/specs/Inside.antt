@@ -1,8 +1,7 @@
 -- What the functions inside this crate ask of each other and tell each other, on the way to the promises. A reader of the promises may pass
 -- over this file. Assumes nothing.
-use Rattle.std.specs.Prelude.{◌≡◌, ◌⊎◌, cond, List, [], ◌∷◌, ℕ, ◌+◌, ◌-◌, ◌*◌, ◌/◌, ◌%◌, ◌≤◌, ◌<◌, ltb, eqb, length, get_or}
-use Rattle.ground.specs.Place.{words_of, Each}
-use Rattle.ground.specs.declared.place.Weights.{Weights}
+use Rattle.std.specs.Prelude.{◌≡◌, ◌⊎◌, cond, List, [], ◌∷◌, ℕ, ◌+◌, ◌-◌, ◌*◌, ◌/◌, ◌%◌, ◌≤◌, ◌<◌, eqb, length}
+use Rattle.ground.specs.Place.{Weights, words_of, Each}
 use Rattle.ground.specs.declared.place.Place.{Place}
 use Rattle.index.specs.Bytes.{nth}
 use Rattle.terrain.specs.Word.{code_of, elevation_of}
@@ -23,18 +22,6 @@ first n = n / 65536
 -- and this the second
 abbrev pub second : ℕ → ℕ
 second n = n % 65536
-
--- the number is that of the four bytes from this place on, low byte first, each of them below 256
-pub record FourFrom (bytes : List ℕ) (at number : ℕ) : Type 0 where
-  pub is : number ≡ get_or bytes at 0 + 256 * get_or bytes (at + 1) 0 + 65536 * get_or bytes (at + 2) 0 + 16777216 * get_or bytes (at + 3) 0
-  pub first : get_or bytes at 0 ≤ 255
-  pub second : get_or bytes (at + 1) 0 ≤ 255
-  pub third : get_or bytes (at + 2) 0 ≤ 255
-  pub fourth : get_or bytes (at + 3) 0 ≤ 255
-
--- the number whose four bytes are those of this one in the other order
-abbrev pub turned : ℕ → ℕ
-turned n = 16777216 * (n % 256) + 65536 * (n / 256 % 256) + 256 * (n / 65536 % 256) + n / 16777216
 
 -- words are numbered from 1, and that of a corner that weighs in is a word of the record
 abbrev pub WithinAt : List ℕ → ℕ → ℕ → Type 0
@@ -131,10 +118,6 @@ rank_of s = 8 * s.weight + (7 - s.code)
 -- the code that a rank tells
 abbrev pub told_by : ℕ → ℕ
 told_by m = 7 - m % 8
-
--- the greater of two numbers
-abbrev pub larger : ℕ → ℕ → ℕ
-larger a b = cond (ltb a b) b a
 
 -- what sums weigh together
 abbrev pub weight_of : List Sum → ℕ

@@ -1,7 +1,7 @@
 // Edges of the grid: the words at two corners that lie a unit apart, taken together.
 ghost use Rattle.std.specs.Prelude.{◌≡◌, ◌&&◌, ◌||◌, ◌+◌, ◌*◌, ◌≤◌, eqb, length};
 ghost use Rattle.terrain.specs.Word.{code_of};
-ghost use Rattle.reading.specs.Inside.{first, second, FourFrom, turned, EdgeOf, WithinAt, word_where, OnLine, EdgeUnder, ElevationsOf, Heights, between, most_between};
+ghost use Rattle.reading.specs.Inside.{first, second, EdgeOf, WithinAt, word_where, OnLine, EdgeUnder, ElevationsOf, Heights, between, most_between};
 
 use ground::measure::Metres;
 use ground::place::Place;
@@ -9,7 +9,8 @@ use index::bytes::nth;
 use terrain::word;
 use terrain::word::NO_HEIGHT;
 
-// Two numbers of 16 bits are held as one: this times the first, plus the second.
+// Two numbers of 16 bits are held as one, which takes fewer instructions than two: this times the first, plus
+// the second.
 const PER_FIRST: u32 = 65536;
 
 // With 1 added, of all elevations 8191 alone reaches this. It is the bit that is asked for at the second
@@ -27,36 +28,8 @@ pub struct Edge(pub u32);
 #[derive(Clone, Copy)]
 pub struct Elevations(pub u32);
 
-// A byte as a number of 32 bits.
-fn wide(byte: u8) -> u32
-    ensures { (result ≡ byte) × (result ≤ 255) }
-{
-    byte as u32
-}
-
-// The four bytes from `at` on as one number, low byte first: the order in which an x86-64 processor takes
-// all four at once.
-fn four_from(bytes: &[u8], at: usize) -> u32
-    requires { at + 4 ≤ length bytes.now }
-    ensures { FourFrom bytes.now at result }
-{
-    wide(bytes[at])
-        + 256 * wide(bytes[at + 1])
-        + 65536 * wide(bytes[at + 2])
-        + 16777216 * wide(bytes[at + 3])
-}
-
-// The number whose four bytes are those of this one in the other order.
-fn turned(number: u32) -> u32
-    ensures { result ≡ turned number }
-{
-    16777216 * (number % 256)
-        + 65536 * (number / 256 % 256)
-        + 256 * (number / 65536 % 256)
-        + number / 16777216
-}
-
-// Word w of the record where its corner weighs in; else the word is not looked at, and 0 stands for it.
+// Word w of the record where its corner weighs in; else the word is not looked at, and 0 stands for it, as it
+// goes into the edge's number.
 fn word_at(bytes: &[u8], w: usize, weight: u32) -> u32
     requires { WithinAt bytes.now w weight }
     ensures { (result ≡ word_where bytes.now w weight) × (result ≤ 65535) }
@@ -81,7 +54,8 @@ impl Edge {
         requires { (1 ≤ w) × (2 * (w + 1) ≤ length bytes.now) }
         ensures { EdgeOf bytes.now w (w + 1) result }
     {
-        Edge(turned(four_from(bytes, 2 * (w - 1))))
+        let at = 2 * (w - 1);
+        Edge(u32::from_be_bytes([bytes[at], bytes[at + 1], bytes[at + 2], bytes[at + 3]]))
     }
 
     // The edge under a point of a grid line, from its south-west corner to the next one: to the north where

@@ -1,7 +1,7 @@
 // The surface code of a point: the vote of its corners.
 ghost use Rattle.std.specs.Prelude.{◌≡◌, [], ◌∷◌, ◌+◌, ◌≤◌};
 ghost use Rattle.terrain.specs.Inside.{Measured};
-ghost use Rattle.reading.specs.Inside.{joined, rank_of, larger, Fit, Top, Decides, from_to, corners_around};
+ghost use Rattle.reading.specs.Inside.{joined, rank_of, Fit, Top, Decides, from_to, corners_around};
 ghost use Rattle.reading.specs.Vote.{vote};
 
 use crate::edge::Edge;
@@ -40,14 +40,9 @@ impl Sum {
     }
 }
 
-// The greater of two numbers.
-fn greater(a: u32, b: u32) -> u32
-    ensures { result ≡ larger a b }
-{
-    if a < b { b } else { a }
-}
-
-// The highest rank of two sums, which count as one where they have one code.
+// The highest rank of two sums, which count as one where they have one code. Two, three and four sums have a
+// function each, which joins two of them and calls the one before: over a slice the joined sum would have to be
+// written back.
 fn best_of_two(a: Sum, b: Sum) -> u32
     requires { Fit (a ∷ b ∷ []) }
     ensures { Top (a ∷ b ∷ []) result }
@@ -55,7 +50,7 @@ fn best_of_two(a: Sum, b: Sum) -> u32
     if a.code == b.code {
         return a.with(b).rank();
     }
-    greater(a.rank(), b.rank())
+    a.rank().max(b.rank())
 }
 
 // The highest rank of three sums, of which those with one code count as one.
@@ -69,7 +64,7 @@ fn best_of_three(a: Sum, b: Sum, c: Sum) -> u32
     if a.code == c.code {
         return best_of_two(a.with(c), b);
     }
-    greater(a.rank(), best_of_two(b, c))
+    a.rank().max(best_of_two(b, c))
 }
 
 // The highest rank of four sums, of which those with one code count as one.
@@ -86,7 +81,7 @@ fn best_of_four(a: Sum, b: Sum, c: Sum, d: Sum) -> u32
     if a.code == d.code {
         return best_of_three(a.with(d), b, c);
     }
-    greater(a.rank(), best_of_three(b, c, d))
+    a.rank().max(best_of_three(b, c, d))
 }
 
 // The surface code f metres along a unit from one code to another: the nearer one, which weighs more;
@@ -101,7 +96,7 @@ pub(crate) fn nearer(f: u32, from: u32, to: u32) -> u32
     if HALF_WAY < f {
         return to;
     }
-    if to < from { to } else { from }
+    from.min(to)
 }
 
 // The surface code with the greatest sum of weights, ties to the smaller code, of a point between two

@@ -5,8 +5,8 @@
 //     20   60 records and a byte; rectangles 50 to 63 are covered
 //     22   60 records, the most that are taken
 //     23   61 records
-// The file of any other zone is that of zone 17, and cannot be read.
-ghost use Rattle.std.specs.Prelude.{◌≤◌};
+// The file of any other zone cannot be read.
+ghost use Rattle.std.specs.Prelude.{◌≤◌, IfSome};
 
 // Bytes of the longest file, of 61 records.
 pub(crate) const LONGEST: usize = 62464;
@@ -30,28 +30,20 @@ const BARE: u32 = 8192 * 2;
 
 const NO_HEIGHT: u32 = BARE + 8191;
 
-// What is found under the name of a file: whether it can be read, how many bytes it has, and how many
-// rectangles it covers.
+// What is found under the name of a file: how many bytes it has, and how many rectangles it covers.
 #[derive(Clone, Copy)]
-pub(crate) struct Found {
-    pub(crate) readable: bool,
-    pub(crate) length: usize,
+struct Found {
+    length: usize,
     rectangles: u32,
 }
 
-// Writes a byte of the file, where it has one at this place.
-fn set(file: &mut [u8], at: usize, byte: u8) {
-    if at < file.len() {
-        file[at] = byte;
-    }
-}
-
-// Writes the n-th 16-bit number of the file, counted from 1, high byte first.
+// Writes the n-th 16-bit number of the file, counted from 1, high byte first, where it has one.
 fn put(file: &mut [u8], n: u32, number: u32) {
     let end = 2 * n as usize;
-    if 2 <= end {
-        set(file, end - 2, (number / 256 % 256) as u8);
-        set(file, end - 1, (number % 256) as u8);
+    if 0 < n
+        && let Some(place) = file.get_mut(end - 2..end)
+    {
+        place.copy_from_slice(&((number % 65536) as u16).to_be_bytes());
     }
 }
 
@@ -83,51 +75,31 @@ fn hill(file: &mut [u8]) {
     put(file, LAST + WORDS, NO_HEIGHT);
 }
 
-// What is found under the name of a file of a zone.
-fn look(zone: u32) -> Found
-    ensures { (result.length ≤ 62464) × (result.rectangles ≤ 14) }
+// What is found under the name of a file of a zone, where it can be read.
+fn look(zone: u32) -> Option<Found>
+    ensures { IfSome result (λ found. (found.length ≤ 62464) × (found.rectangles ≤ 14)) }
 {
-    match zone {
-        17 | 18 | 19 => Found {
-            readable: true,
-            length: 7168,
-            rectangles: 1,
-        },
-        20 => Found {
-            readable: true,
-            length: 61441,
-            rectangles: MANY,
-        },
-        22 => Found {
-            readable: true,
-            length: 61440,
-            rectangles: MANY,
-        },
-        23 => Found {
-            readable: true,
-            length: LONGEST,
-            rectangles: MANY,
-        },
-        _ => Found {
-            readable: false,
-            length: 7168,
-            rectangles: 1,
-        },
-    }
+    let (length, rectangles) = match zone {
+        17 | 18 | 19 => (7168, 1),
+        20 => (61441, MANY),
+        22 => (61440, MANY),
+        23 => (LONGEST, MANY),
+        _ => return None,
+    };
+    Some(Found { length, rectangles })
 }
 
-// Builds the file of a zone, over another or over zeros, and gives what is found there.
-pub(crate) fn build(file: &mut [u8], zone: u32) -> Found
-    ensures { result.length ≤ 62464 }
+// Builds the file of a zone, over another or over zeros, and gives its length, where it can be read.
+pub(crate) fn build(file: &mut [u8], zone: u32) -> Option<usize>
+    ensures { IfSome result (λ length. length ≤ 62464) }
 {
-    let found = look(zone);
-    let rectangles = found.rectangles;
-    index(file, rectangles);
-    level(file, rectangles);
+    let found = look(zone)?;
+    index(file, found.rectangles);
+    level(file, found.rectangles);
     if zone == 18 {
         hill(file);
     } else if zone == 19 {
         put(file, RECTANGLE + 1, RECORD);
     }
-    found
+    Some(found.length)
 }

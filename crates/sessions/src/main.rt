@@ -15,7 +15,8 @@ use std::io::Read;
 // The bytes left for answers in the second session: three of the longest, and some more.
 const LITTLE: usize = 60;
 
-// Reads until the room is full, the input ends or a read fails, and gives how many bytes were read.
+// Reads until the room is full, the input ends or a read fails, and gives how many bytes were read. A read gives as
+// many bytes as it likes, and the library's `read_to_end` wants a heap.
 fn read_full(input: &mut impl Read, room: &mut [u8]) -> usize
     ensures { result ≤ length room.new }
 {

@@ -1,12 +1,13 @@
 // A session: a text in pieces, whose lines are answered as far as each piece goes.
-ghost use Rattle.std.specs.Prelude.{◌≡◌, ◌+◌, ◌-◌, ◌≤◌, length};
-ghost use Rattle.sessions.specs.Room.{AtDesk};
+ghost use Rattle.std.specs.Prelude.{◌≡◌, ◌+◌, ◌≤◌, length, IfSome};
+ghost use Rattle.shell.specs.Inside.{HasRead, Waits};
 
 use crate::file;
-use shell::command::Shell;
-use shell::feed::{Next, PIECE, Step};
-use shell::sites::MOST_SITES;
-use shell::{answer, command, feed};
+use shell::answer::{Answer, Answers};
+use shell::command::{FileName, Shell};
+use shell::feed::{Input, Next, PIECE};
+use shell::{answer, feed};
+use std::mem;
 
 // The longest text.
 pub(crate) const MOST_TEXT: usize = 8192;
@@ -18,136 +19,72 @@ const MOST_PIECE: usize = 7;
 // full.
 const TURNS: u32 = 100000;
 
-// Where a session stands: what the shell remembers, and the length of the file in use; the place in the text
-// and the size of the next piece; the place in the input and its end; how many bytes of the room for answers
-// are left alone and how many are filled; and whether the session goes on.
+// What is left of a text, and the size of the next piece of it.
 #[derive(Clone, Copy)]
-struct Desk {
-    shell: Shell,
-    length: usize,
-    from: usize,
+struct Pieces<'a> {
+    text: &'a [u8],
     size: usize,
-    at: usize,
-    end: usize,
-    first: usize,
-    filled: usize,
-    open: bool,
 }
 
-// The start of a session: no file in use, and no input yet.
-fn opened(size: usize, first: usize) -> Desk
-    requires { first ≤ 65536 }
-    ensures { AtDesk result × (result.from ≡ 0) }
+// Prints the answers that wait after the first bytes of the room, which are left alone.
+fn flush(rt: &impl Print, answers: &mut Answers, first: usize)
+    requires { Waits answers.old × (first ≤ 65536) }
+    ensures { Waits answers.new }
 {
-    let shell = command::start();
-    Desk {
-        shell,
-        length: 0,
-        from: 0,
-        size,
-        at: 0,
-        end: 0,
-        first,
-        filled: first,
-        open: true,
+    if first <= answers.filled {
+        let _ = rt.write_all(&answers.bytes[first..answers.filled]);
+    }
+    answers.filled = first;
+}
+
+// Answers a `use`: the file of the name is built in the room and checked. Gives its length where it passed,
+// and so is in use from now on.
+fn use_file(
+    name: FileName,
+    room: &mut [u8],
+    shell: &mut Shell,
+    answers: &mut Answers,
+) -> Option<usize>
+    requires room { length room.old ≡ 62464 }
+    requires room_to_answer { Waits answers.old × (answers.old.filled ≤ 65519) }
+    ensures waits { Waits answers.new }
+    ensures in_room { IfSome result (λ n. n ≤ 62464) }
+{
+    let built = file::build(room, name.zone);
+    let used = shell.on_use(built.map(|length| &room[..length]), name);
+    answers.say(used.unwrap_or_else(Answer::from));
+    if used.is_ok() { built } else { None }
+}
+
+impl<'a> Pieces<'a> {
+    // The next piece, where there is more text.
+    fn next(&mut self) -> Option<&'a [u8]>
+        ensures left { length self.new.text.now ≤ length self.old.text.now }
+        ensures piece { IfSome result (λ piece. length piece.now + length self.new.text.now ≤ length self.old.text.now) }
+    {
+        if self.text.is_empty() {
+            return None;
+        }
+        let (piece, rest) = self.text.split_at(self.size.min(self.text.len()));
+        self.text = rest;
+        self.size = self.size % MOST_PIECE + 1;
+        Some(piece)
     }
 }
 
-// The session after some lines were answered.
-fn after(desk: Desk, step: Step) -> Desk
-    requires { AtDesk desk × (step.filled ≤ 65536) }
-    ensures { AtDesk result × ((result.filled ≡ step.filled) × (result.from ≡ desk.from)) }
+// Puts the next piece of the text after what is left of a line, which is ended where the text has ended.
+fn read_on(pieces: &mut Pieces, input: &mut Input)
+    requires { HasRead input.old × (length pieces.old.text.now ≤ 8192) }
+    ensures { HasRead input.new × (length pieces.new.text.now ≤ 8192) }
 {
-    let shell = step.shell;
-    let mut then = desk;
-    then.shell = shell;
-    then.at = step.at;
-    then.filled = step.filled;
-    then
-}
-
-// The session after the answers that wait were printed.
-fn flush(rt: &impl Print, desk: Desk, out: &[u8; answer::ROOM]) -> Desk
-    requires { AtDesk desk }
-    ensures { AtDesk result × (result.from ≡ desk.from) }
-{
-    let all = &out[..];
-    let first = desk.first;
-    let filled = desk.filled;
-    if first <= filled {
-        let _ = rt.write_all(&all[first..filled]);
+    input.keep();
+    if let Some(piece) = pieces.next() {
+        let end = input.end + piece.len();
+        input.bytes[input.end..end].copy_from_slice(piece);
+        input.end = end;
+    } else {
+        input.end_kept();
     }
-    let mut then = desk;
-    then.filled = first;
-    then
-}
-
-// The session after a `use` of the file of a base and a zone, whose answer waits. The file is tried in a
-// room of its own, and where it passes it takes the place of the file in use.
-fn use_file(base: u32, zone: u32, desk: Desk, file: &mut [u8], out: &mut [u8; answer::ROOM]) -> Desk
-    requires { AtDesk desk × ((desk.filled ≤ 65519) × (length out.old ≡ 65536)) }
-    ensures { AtDesk result × ((result.from ≡ desk.from) × (length out.new ≡ 65536)) }
-{
-    let mut tried = [0u8; file::LONGEST];
-    let found = file::build(&mut tried[..], zone);
-    let length = found.length;
-    let used = command::on_use(desk.shell, found.readable, &tried[..length], base, zone);
-    let said = used.answer;
-    let shell = used.shell;
-    let mut then = desk;
-    then.shell = shell;
-    then.filled = answer::say(said, out, desk.filled);
-    if used.passed {
-        file::build(file, zone);
-        then.length = length;
-    }
-    then
-}
-
-// The next piece of the text: at most `size` of the bytes from a place on.
-fn piece_of(text: &[u8], from: usize, size: usize) -> &[u8]
-    requires { from ≤ length text.now }
-    ensures { from + length result.now ≤ length text.now }
-{
-    if text.len() - from <= size {
-        return &text[from..];
-    }
-    &text[from..from + size]
-}
-
-// Puts a piece after the bytes that were kept, and gives the end of both.
-fn put(piece: &[u8], input: &mut [u8], kept: usize) -> usize
-    requires { kept + length piece.now ≤ length input.old }
-    ensures { result ≡ kept + length piece.now }
-{
-    let mut i = 0;
-    while i < piece.len() {
-        input[kept + i] = piece[i];
-        i += 1;
-    }
-    kept + i
-}
-
-// The session with the next piece of the text after what was kept of a line. At the end of the text a line
-// that was kept is ended; where there is none the session ends.
-fn read_on(text: &[u8], desk: Desk, input: &mut [u8; PIECE]) -> Desk
-    requires at_desk { AtDesk desk × (length input.old ≡ 65536) }
-    requires from_in_bounds { (desk.from ≤ length text.now) × (length text.now ≤ 8192) }
-    ensures { AtDesk result × ((result.from ≤ length text.now) × (length input.new ≡ 65536)) }
-{
-    let kept = feed::keep(input, desk.at, desk.end);
-    let piece = piece_of(text, desk.from, desk.size);
-    let more = piece.len();
-    let mut then = desk;
-    then.from = desk.from + more;
-    then.size = desk.size % MOST_PIECE + 1;
-    then.at = 0;
-    then.end = put(piece, input, kept);
-    if more == 0 {
-        then.end = feed::end_kept(input, kept);
-        then.open = 0 < kept;
-    }
-    then
 }
 
 // Answers the lines of a text, and prints the answers. The text comes in pieces: the first of `size` bytes,
@@ -156,36 +93,42 @@ fn read_on(text: &[u8], desk: Desk, input: &mut [u8; PIECE]) -> Desk
 pub(crate) fn run(rt: &impl Print, text: &[u8], size: usize, first: usize)
     requires { (length text.now ≤ 8192) × (first ≤ 65536) }
 {
-    let mut input = [0u8; PIECE];
-    let mut out = [0u8; answer::ROOM];
-    let mut file = [0u8; file::LONGEST];
-    let mut names = [0u64; MOST_SITES];
-    let mut eastings = [0u32; MOST_SITES];
-    let mut northings = [0u32; MOST_SITES];
-    let mut desk = opened(size, first);
-    let mut turns = TURNS;
-    while 0 < turns && desk.open {
-        turns -= 1;
-        let length = desk.length;
-        let end = desk.end;
-        let step = feed::answer_lines(
-            &input[..end],
-            desk.at,
-            desk.shell,
-            &file[..length],
-            &mut names,
-            &mut eastings,
-            &mut northings,
-            &mut out,
-            desk.filled,
-        );
-        let next = step.next;
-        desk = after(desk, step);
-        desk = match next {
-            Next::Use(base, zone) => use_file(base, zone, desk, &mut file[..], &mut out),
-            Next::More => read_on(text, desk, &mut input),
-            Next::Full => flush(rt, desk, &out),
-        };
+    let mut pieces = Pieces { text, size };
+    let mut shell = Shell::start();
+    let mut answers = Answers {
+        bytes: [0; answer::ROOM],
+        filled: first,
+    };
+    let mut input = Input {
+        bytes: [0; PIECE],
+        at: 0,
+        end: 0,
+    };
+    let mut one = [0u8; file::LONGEST];
+    let mut other = [0u8; file::LONGEST];
+    let mut file = &mut one;
+    let mut spare = &mut other;
+    let mut length = 0;
+    for _ in 0..TURNS {
+        let lines = &input.bytes[..input.end];
+        let step = feed::answer_lines(lines, input.at, &mut shell, &file[..length], &mut answers);
+        input.at = step.at;
+        match step.next {
+            Next::Use(name) => {
+                let used = use_file(name, &mut spare[..], &mut shell, &mut answers);
+                if let Some(new) = used {
+                    mem::swap(&mut file, &mut spare);
+                    length = new;
+                }
+            }
+            Next::Full => flush(rt, &mut answers, first),
+            Next::More => {
+                read_on(&mut pieces, &mut input);
+                if input.end == 0 {
+                    break;
+                }
+            }
+        }
     }
-    flush(rt, desk, &out);
+    flush(rt, &mut answers, first);
 }

@@ -32,7 +32,8 @@ use Rattle.profile.specs.Profile.{Link, zeros, up_to, link_in, linked}
 use Rattle.masts.specs.Clear.{clear_by}
 use Rattle.masts.specs.Plan.{first_mast, least_sum, plan_of}
 use Rattle.masts.specs.declared.Masts.{Masts}
-use Rattle.link.specs.Clear.{T, G, need, clear, Sight, sight}
+use Rattle.link.specs.declared.clear.Seen.{Seen}
+use Rattle.link.specs.Clear.{T, G, need, clear, sight}
 use Rattle.plan.specs.Plan.{plan}
 use Rattle.lines.specs.Spell.{all, value_after}
 use Rattle.lines.specs.Line.{
@@ -160,7 +161,7 @@ after_use : Reply → List ℕ
 after_use r = said r.answer ++ answers folder r.state (drop 1 input)
 
 -- the output by what is seen and what is planned
-after_sites : Outcome Sight → Outcome Masts → List ℕ
+after_sites : Outcome Seen → Outcome Masts → List ℕ
 after_sites s m =
     said (answer.Used 40 17) ++ (said (answer.Held 1) ++ (said (answer.Held 2) ++ (said (seen s) ++ (said (planned m) ++ said (answer.Bad 12)))))
 

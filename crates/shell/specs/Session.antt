@@ -5,7 +5,8 @@ use Rattle.ground.specs.Measure.{metres}
 use Rattle.ground.specs.declared.point.Point.{Point}
 use Rattle.terrain.specs.Check.{checked}
 use Rattle.masts.specs.declared.Masts.{Masts}
-use Rattle.link.specs.Clear.{Sight, sight}
+use Rattle.link.specs.Clear.{sight}
+use Rattle.link.specs.declared.clear.Seen.{Seen}
 use Rattle.plan.specs.Plan.{plan}
 use Rattle.lines.specs.Spell.{«use», site, path, masts}
 use Rattle.lines.specs.Line.{Reading, legal, bad, reading}
@@ -123,7 +124,7 @@ between file ask (found first) missing = answer.Unknown
 between file ask missing second = answer.Unknown
 
 -- `path` with N and the verdict on masts 0 and 0, or `refused` and the number
-abbrev pub seen : Outcome Sight → Answer
+abbrev pub seen : Outcome Seen → Answer
 seen (given s) = answer.Seen s.n s.clear
 seen (refused number place) = answer.Refused number
 

@@ -1,279 +1,165 @@
 // What each command answers, and what the shell then remembers.
-ghost use Rattle.std.specs.Prelude.{◌≡◌, true, false, ◌<◌};
+ghost use Rattle.std.specs.Prelude.{◌≡◌};
+ghost use Rattle.ground.specs.Outcome.{refusal_number};
+ghost use Rattle.ground.specs.Refusal.{outcome_of};
 ghost use Rattle.shell.specs.Session.{refusal_of};
-ghost use Rattle.shell.specs.Inside.{held_of, Uses, point_in, lists, AnswersSite, LooksUp, AnswersPath, AnswersMasts, Replies};
+ghost use Rattle.shell.specs.Inside.{held_of, Starts, Uses, AnswersSite, LooksUp, AnswersPath, AnswersMasts, Replies};
 
 use crate::answer::Answer;
-use crate::sites;
-use crate::sites::MOST_SITES;
-use ground::measure::Metres;
+use crate::sites::{Site, Sites};
 use ground::point::Point;
+use ground::refusal::Refusal;
 use lines::Line;
+use link::clear::sight;
+use plan::plan;
+use terrain::check::check_file;
 
 // The bytes of 60 records, the most that `use` takes.
 pub const MOST_BYTES: usize = 61440;
 
-// What the shell remembers beside the lists of sites and the bytes of the file in use: how many sites
-// there are, whether a file is in use, and the base and zone of its name.
+// The base and the zone that name a terrain file.
 #[derive(Clone, Copy)]
-pub struct Shell {
-    pub count: usize,
-    pub used: bool,
+pub struct FileName {
     pub base: u32,
     pub zone: u32,
 }
 
-// An answer, and what the shell then remembers.
+// What the shell remembers beside the bytes of the file in use: the sites, and the name of that file, where
+// there is one.
 #[derive(Clone, Copy)]
-pub struct Reply {
-    pub answer: Answer,
-    pub shell: Shell,
+pub struct Shell {
+    pub sites: Sites,
+    pub file: Option<FileName>,
 }
 
-// The answer to a `use`, what the shell then remembers, and whether the new file takes the place of the
-// earlier one.
+// The points of two sites, in the zone of the file in use, and its name.
 #[derive(Clone, Copy)]
-pub struct Used {
-    pub passed: bool,
-    pub answer: Answer,
-    pub shell: Shell,
+struct Ends {
+    name: FileName,
+    first: Point,
+    second: Point,
 }
 
-// What the shell remembers at the start: no file, no sites.
-pub fn start() -> Shell
-    ensures { result ≡ record { count = 0; used = false; base = 0; zone = 0 } }
+// Passes what was found under a name, if anything, or refuses it: with 1 where it could not be read or is too
+// long, else as the file check does.
+fn pass(held: Option<&[u8]>, name: FileName) -> Result<(), Refusal>
+    ensures { refusal_number (outcome_of result) ≡ refusal_of (held_of held.entry) name.base name.zone }
 {
-    Shell {
-        count: 0,
-        used: false,
-        base: 0,
-        zone: 0,
-    }
-}
-
-// What the shell remembers of so many sites, with the file of a base and a zone in use.
-fn in_use(count: usize, base: u32, zone: u32) -> Shell
-    ensures { result ≡ record { count = count; used = true; base = base; zone = zone } }
-{
-    Shell {
-        count,
-        used: true,
-        base,
-        zone,
-    }
-}
-
-// The refusal of what was found under the name of a base and a zone: 1 where it could not be read or is
-// too long, else the number of the file check; 0 where it passes.
-fn refusal_of(readable: bool, bytes: &[u8], base: u32, zone: u32) -> u32
-    ensures { result ≡ refusal_of (held_of readable bytes.now) base zone }
-{
-    if !readable {
-        return 1;
-    }
+    let bytes = held.ok_or(Refusal::NotWhole)?;
     if MOST_BYTES < bytes.len() {
-        return 1;
+        return Err(Refusal::NotWhole);
     }
-    let answer = terrain::check::check(bytes, base, zone);
-    answer.refusal
+    check_file(bytes, name.base, name.zone)?;
+    Ok(())
 }
 
-// The answer to a `use` for which these bytes were found. A refused `use` changes nothing.
-pub fn on_use(shell: Shell, readable: bool, bytes: &[u8], base: u32, zone: u32) -> Used
-    ensures { Uses shell (held_of readable bytes.now) base zone result }
-{
-    let number = refusal_of(readable, bytes, base, zone);
-    if number != 0 {
-        return Used {
-            passed: false,
-            answer: Answer::Refused(number),
-            shell,
+impl Shell {
+    // What the shell remembers at the start: no file, no sites.
+    pub fn start() -> Self
+        ensures { Starts result }
+    {
+        Shell {
+            sites: Sites::new(),
+            file: None,
+        }
+    }
+
+    // The answer to a `use` for whose name this was found: `Ok` where the new file takes the place of the
+    // earlier one. A refused `use` changes nothing.
+    pub fn on_use(&mut self, held: Option<&[u8]>, name: FileName) -> Result<Answer, Refusal>
+        ensures { Uses self.old (held_of held.entry) name self.new result }
+    {
+        pass(held, name)?;
+        self.file = Some(name);
+        Ok(Answer::Used(name.base, name.zone))
+    }
+
+    // The answer to a new site, which is entered after the others where its name is not taken and there is
+    // room.
+    fn on_site(&mut self, site: Site) -> Result<Answer, Answer>
+        ensures { AnswersSite self.old site self.new result }
+    {
+        if self.sites.find(site.key).is_some() {
+            return Err(Answer::Taken);
+        }
+        if self.sites.is_full() {
+            return Err(Answer::Full);
+        }
+        self.sites.add(site);
+        Ok(Answer::Held(self.sites.count))
+    }
+
+    // The sites of two names, as points of the zone of the file in use; or what is said where a name or a
+    // file is missing.
+    fn look_up(&self, first: u64, second: u64) -> Result<Ends, Answer>
+        ensures { LooksUp self.now first second result }
+    {
+        let i = self.sites.find(first).ok_or(Answer::Unknown)?; // names come before the file
+        let j = self.sites.find(second).ok_or(Answer::Unknown)?;
+        let name = self.file.ok_or(Refusal::NotWhole)?;
+        Ok(Ends {
+            name,
+            first: self.sites.entries[i].point(name.zone),
+            second: self.sites.entries[j].point(name.zone),
+        })
+    }
+
+    // The answer to a path between the sites of two names: N and the verdict with no masts.
+    fn on_path(&self, file: &[u8], first: u64, second: u64) -> Result<Answer, Answer>
+        ensures { AnswersPath self.now first second file.now result }
+    {
+        let ends = self.look_up(first, second)?;
+        let seen = sight(
+            file,
+            ends.name.base,
+            ends.name.zone,
+            ends.first,
+            ends.second,
+            0,
+            0,
+        )?;
+        Ok(Answer::Seen(seen.n, seen.clear))
+    }
+
+    // The answer to the masts of the sites of two names, within two limits.
+    fn on_masts(
+        &self,
+        file: &[u8],
+        first: u64,
+        second: u64,
+        a: u32,
+        b: u32,
+    ) -> Result<Answer, Answer>
+        ensures { AnswersMasts self.now first second a b file.now result }
+    {
+        let ends = self.look_up(first, second)?;
+        let masts = plan(
+            file,
+            ends.name.base,
+            ends.name.zone,
+            ends.first,
+            ends.second,
+            a,
+            b,
+        )?;
+        Ok(Answer::Planned(masts.first, masts.second))
+    }
+
+    // The answer to a line; or the name of the file that a `use` asks for, which `on_use` answers once it was
+    // looked for: here it changes nothing.
+    pub(crate) fn answer_line(&mut self, line: Line, file: &[u8]) -> Result<Answer, FileName>
+        ensures { Replies line self.old file.now self.new result }
+    {
+        let (Ok(answer) | Err(answer)) = match line {
+            Line::Use(base, zone) => return Err(FileName { base, zone }),
+            Line::Site(key, easting, northing) => self.on_site(Site {
+                key,
+                easting,
+                northing,
+            }),
+            Line::Path(first, second) => self.on_path(file, first, second),
+            Line::Masts(first, second, a, b) => self.on_masts(file, first, second, a, b),
         };
-    }
-    Used {
-        passed: true,
-        answer: Answer::Used(base, zone),
-        shell: in_use(shell.count, base, zone),
-    }
-}
-
-// The answer to a new site, which is entered after the others where its name is not taken and there is
-// room.
-fn on_site(
-    shell: Shell,
-    names: &mut [u64; MOST_SITES],
-    eastings: &mut [u32; MOST_SITES],
-    northings: &mut [u32; MOST_SITES],
-    key: u64,
-    easting: u32,
-    northing: u32,
-) -> Reply
-    ensures { AnswersSite shell key easting northing
-        (lists names.old eastings.old northings.old)
-        (lists names.new eastings.new northings.new) result }
-{
-    let at = shell.count;
-    if sites::find(names, at, key) < MOST_SITES {
-        return Reply {
-            answer: Answer::Taken,
-            shell,
-        };
-    }
-    if MOST_SITES <= at {
-        return Reply {
-            answer: Answer::Full,
-            shell,
-        };
-    }
-    names[at] = key;
-    eastings[at] = easting;
-    northings[at] = northing;
-    Reply {
-        answer: Answer::Held(at + 1),
-        shell: Shell {
-            count: at + 1,
-            used: shell.used,
-            base: shell.base,
-            zone: shell.zone,
-        },
-    }
-}
-
-// Site i as a point of this zone.
-fn point(zone: u32, eastings: &[u32; MOST_SITES], northings: &[u32; MOST_SITES], i: usize) -> Point
-    requires { i < 32 }
-    ensures { result ≡ point_in zone eastings.now northings.now i }
-{
-    Point {
-        zone,
-        easting: Metres(eastings[i]),
-        northing: Metres(northings[i]),
-    }
-}
-
-// What two names come to: a site that is missing, no file in use, or the points of the two sites.
-#[derive(Clone, Copy)]
-enum Ends {
-    Unknown,
-    NoFile,
-    Points(Point, Point),
-}
-
-// The sites of two names, as points of the zone of the file in use.
-fn look_up(
-    shell: Shell,
-    names: &[u64; MOST_SITES],
-    eastings: &[u32; MOST_SITES],
-    northings: &[u32; MOST_SITES],
-    first: u64,
-    second: u64,
-) -> Ends
-    ensures { LooksUp shell first second
-        (lists names.now eastings.now northings.now) result }
-{
-    let i = sites::find(names, shell.count, first);
-    if MOST_SITES <= i {
-        return Ends::Unknown;
-    }
-    let j = sites::find(names, shell.count, second);
-    if MOST_SITES <= j {
-        return Ends::Unknown;
-    }
-    if !shell.used {
-        return Ends::NoFile;
-    }
-    let p = point(shell.zone, eastings, northings, i);
-    let q = point(shell.zone, eastings, northings, j);
-    Ends::Points(p, q)
-}
-
-// The answer to a path between the sites of two names: N and the verdict with no masts.
-fn on_path(
-    shell: Shell,
-    file: &[u8],
-    names: &[u64; MOST_SITES],
-    eastings: &[u32; MOST_SITES],
-    northings: &[u32; MOST_SITES],
-    first: u64,
-    second: u64,
-) -> Answer
-    ensures { AnswersPath shell first second file.now
-        (lists names.now eastings.now northings.now) result }
-{
-    match look_up(shell, names, eastings, northings, first, second) {
-        Ends::Unknown => Answer::Unknown, // names come before the file
-        Ends::NoFile => Answer::Refused(1),
-        Ends::Points(p, q) => {
-            let seen = link::clear::sight(file, shell.base, shell.zone, p, q, 0, 0);
-            if seen.refusal != 0 {
-                return Answer::Refused(seen.refusal);
-            }
-            Answer::Seen(seen.n, seen.clear == 1)
-        }
-    }
-}
-
-// The answer to the masts of the sites of two names, within two limits.
-fn on_masts(
-    shell: Shell,
-    file: &[u8],
-    names: &[u64; MOST_SITES],
-    eastings: &[u32; MOST_SITES],
-    northings: &[u32; MOST_SITES],
-    first: u64,
-    second: u64,
-    a: u32,
-    b: u32,
-) -> Answer
-    ensures { AnswersMasts shell first second a b file.now
-        (lists names.now eastings.now northings.now) result }
-{
-    match look_up(shell, names, eastings, northings, first, second) {
-        Ends::Unknown => Answer::Unknown,
-        Ends::NoFile => Answer::Refused(1),
-        Ends::Points(p, q) => {
-            let planned = plan::plan(file, shell.base, shell.zone, p, q, a, b);
-            if planned.refusal != 0 {
-                return Answer::Refused(planned.refusal);
-            }
-            Answer::Planned(planned.first, planned.second)
-        }
-    }
-}
-
-// The answer to a line, and what the shell then remembers. A `use` is answered by `on_use`, once its file
-// was looked for; here it changes nothing.
-pub(crate) fn answer_line(
-    line: Line,
-    shell: Shell,
-    file: &[u8],
-    names: &mut [u64; MOST_SITES],
-    eastings: &mut [u32; MOST_SITES],
-    northings: &mut [u32; MOST_SITES],
-) -> Reply
-    ensures { Replies line shell file.now
-        (lists names.old eastings.old northings.old)
-        (lists names.new eastings.new northings.new) result }
-{
-    match line {
-        Line::Use(base, zone) => Reply {
-            answer: Answer::Refused(1),
-            shell,
-        },
-        Line::Site(key, easting, northing) => {
-            on_site(shell, names, eastings, northings, key, easting, northing)
-        }
-        Line::Path(first, second) => {
-            let answer = on_path(shell, file, names, eastings, northings, first, second);
-            Reply { answer, shell }
-        }
-        Line::Masts(first, second, a, b) => {
-            let answer = on_masts(shell, file, names, eastings, northings, first, second, a, b);
-            Reply { answer, shell }
-        }
-        Line::Bad(column) => Reply {
-            answer: Answer::Bad(column),
-            shell,
-        },
+        Ok(answer)
     }
 }

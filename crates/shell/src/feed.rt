@@ -1,13 +1,12 @@
 // An input, line by line. It may come in pieces: what is left of a piece after its last line feed is kept
 // in front of the next.
 ghost use Rattle.std.specs.Prelude.{◌≡◌, ◌≤◌, length};
-ghost use Rattle.shell.specs.Inside.{lists, Feeds, Keeps, EndsKept};
+ghost use Rattle.shell.specs.Inside.{Feeds, Keeps, EndsKept};
 
-use crate::answer::LONGEST;
-use crate::command::Shell;
-use crate::sites::MOST_SITES;
-use crate::{answer, command};
-use lines::{Line, text};
+use crate::answer;
+use crate::answer::{Answers, LONGEST};
+use crate::command::{FileName, Shell};
+use lines::text;
 
 // The room for input: what was kept of a line, and a piece.
 pub const PIECE: usize = 65536;
@@ -15,117 +14,100 @@ pub const PIECE: usize = 65536;
 // One byte more than the longest legal line: what is kept of a line that is not ended yet.
 pub const MOST_KEPT: usize = 48;
 
-// Why the lines of an input are not answered further: a line asks for the file of a base and a zone; the line
-// at the place is not ended yet; or there is no room for its answer.
+// Why the lines of an input are not answered further: a line asks for the file of a name; the line at the
+// place is not ended yet; or there is no room for its answer.
 #[derive(Clone, Copy)]
 pub enum Next {
-    Use(u32, u32),
+    Use(FileName),
     More,
     Full,
 }
 
-// How far the lines of an input are answered: why no further, the place of the next line, how many bytes of
-// the room for answers are filled, and what the shell remembers.
+// How far the lines of an input are answered: why no further, and the place of the next line.
 #[derive(Clone, Copy)]
 pub struct Step {
     pub next: Next,
     pub at: usize,
-    pub filled: usize,
-    pub shell: Shell,
 }
 
-// Answers the lines that are ended in the input from a place on, one after the other, after the first
-// `filled` bytes of the room for answers; up to a `use`, whose file the caller looks for, or as far as there
-// is room.
+// The input: the bytes before the end were read, and the lines before the place are answered.
+#[derive(Drop)]
+pub struct Input {
+    pub bytes: [u8; PIECE],
+    pub at: usize,
+    pub end: usize,
+}
+
+// Answers the lines that are ended in the input from a place on, one after the other, after the answers that
+// wait; up to a `use`, whose file the caller looks for, or as far as there is room. The place goes from line to
+// line, so the loop has no range.
 pub fn answer_lines(
     input: &[u8],
     from: usize,
-    shell: Shell,
+    shell: &mut Shell,
     file: &[u8],
-    names: &mut [u64; MOST_SITES],
-    eastings: &mut [u32; MOST_SITES],
-    northings: &mut [u32; MOST_SITES],
-    out: &mut [u8; answer::ROOM],
-    filled: usize,
+    answers: &mut Answers,
 ) -> Step
-    requires { length out.old ≡ 65536 }
-    ensures { Feeds input.now from shell file.now
-        (lists names.old eastings.old northings.old)
-        (lists names.new eastings.new northings.new)
-        out.old filled out.new result }
+    requires { length answers.old.bytes ≡ 65536 }
+    ensures { Feeds input.now from shell.old file.now answers.old shell.new answers.new result }
 {
     let mut at = from;
-    let mut full = filled;
-    let mut now = shell;
-    while full <= answer::ROOM - LONGEST {
+    while answers.filled <= answer::ROOM - LONGEST {
         let read = lines::read_line(input, at);
-        let line = read.line;
         let end = text::line_end(input, read.at);
         if input.len() <= end {
             return Step {
                 next: Next::More,
                 at,
-                filled: full,
-                shell: now,
             };
         }
         at = end + 1;
-        if let Line::Use(base, zone) = line {
-            return Step {
-                next: Next::Use(base, zone),
-                at,
-                filled: full,
-                shell: now,
-            };
-        }
-        if let Line::Bad(column) = line {
-            full = answer::say_bad(column, out, full);
-        } else {
-            let reply = command::answer_line(line, now, file, names, eastings, northings);
-            let said = reply.answer;
-            now = reply.shell;
-            full = answer::say(said, out, full);
+        match read.line {
+            Err(column) => answers.say_bad(column),
+            Ok(line) => match shell.answer_line(line, file) {
+                Ok(answer) => answers.say(answer),
+                Err(name) => {
+                    return Step {
+                        next: Next::Use(name),
+                        at,
+                    };
+                }
+            },
         }
     }
     Step {
         next: Next::Full,
         at,
-        filled: full,
-        shell: now,
     }
 }
 
-// Moves the bytes of the input from a place to before the end to its front, at most 48 of them, and gives
-// their number.
-pub fn keep(input: &mut [u8; PIECE], from: usize, end: usize) -> usize
-    requires { length input.old ≡ 65536 }
-    ensures { Keeps input.old from end input.new result }
-{
-    let mut kept = 0;
-    let mut at = from;
-    while at < end {
-        if MOST_KEPT <= kept {
-            break;
+impl Input {
+    // Moves what is left from the place on to the front, at most 48 bytes of it, and forgets the rest.
+    pub fn keep(&mut self)
+        requires { length self.old.bytes ≡ 65536 }
+        ensures kept { Keeps self.old.bytes self.old.at self.old.end self.new.bytes self.new.end }
+        ensures front { self.new.at ≡ 0 }
+    {
+        let from = self.at;
+        let last = self.end.min(PIECE).min(from.saturating_add(MOST_KEPT));
+        self.at = 0;
+        if last <= from {
+            self.end = 0;
+        } else {
+            self.bytes.copy_within(from..last, 0);
+            self.end = last - from;
         }
-        if PIECE <= at {
-            break;
-        }
-        input[kept] = input[at];
-        kept += 1;
-        at += 1;
     }
-    kept
-}
 
-// Ends the line that was kept at the front of the input, where no more input comes, and gives the place after
-// its line feed; 0 where no line was kept.
-pub fn end_kept(input: &mut [u8; PIECE], kept: usize) -> usize
-    requires { (length input.old ≡ 65536) × (kept ≤ 48) }
-    ensures { EndsKept input.old kept input.new result }
-{
-    if kept == 0 {
-        return 0;
+    // Ends the line that was kept at the front, if one was, where no more input comes.
+    pub fn end_kept(&mut self)
+        requires { (length self.old.bytes ≡ 65536) × (self.old.end ≤ 48) }
+        ensures ended { EndsKept self.old.bytes self.old.end self.new.bytes self.new.end }
+        ensures place { self.new.at ≡ self.old.at }
+    {
+        if 0 < self.end {
+            self.bytes[self.end] = text::LINE_FEED;
+            self.end += 1;
+        }
     }
-    input[kept] = text::LINE_FEED;
-    kept + 1
 }

@@ -1,5 +1,5 @@
-// The plan shell: lines in, answers out. What it remembers from line to line is a `Shell` and three
-// lists of sites, which the caller lends, beside the bytes of the file in use, which the caller keeps.
+// The plan shell: lines in, answers out. What it remembers from line to line is a `Shell`, which the caller
+// lends, beside the bytes of the file in use, which the caller keeps.
 #![tactic(auto)]
 
 pub mod answer;

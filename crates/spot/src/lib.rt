@@ -3,23 +3,21 @@
 #![tactic(auto)]
 
 ghost use Rattle.std.specs.Prelude.{◌≡◌};
-ghost use Rattle.reading.specs.Reading.{read_answer};
+ghost use Rattle.ground.specs.Refusal.{outcome_of};
 ghost use Rattle.spot.specs.Spot.{spot};
 
 use ground::point::Point;
+use ground::refusal::Refusal;
 use reading::point;
-use reading::point::ReadAnswer;
+use reading::point::Reading;
 use terrain::check;
-use terrain::check::Checked;
 
 // The exact height and surface code of a spot; or refusal 1, 2, 3 for M outside its range, 4, 3 for an entry
 // that names no record, 5 or 6. Of the index only M and the entries of the rectangles that the point may
 // be read from, up to the first that is not 0, are looked at.
-pub fn read(file: &[u8], base: u32, zone: u32, point: Point) -> ReadAnswer
-    ensures { result ≡ read_answer (spot file.now base zone point) }
+#[tactic(auto, using(crate::proofs::Laws::Spot::spot_steps))]
+pub fn read(file: &[u8], base: u32, zone: u32, point: Point) -> Result<Reading, Refusal>
+    ensures { outcome_of result ≡ spot file.now base zone point }
 {
-    match check::open_file(file, base, zone) {
-        Checked::Passed(terrain) => point::read_in(file, terrain, point),
-        Checked::Refused(number) => ReadAnswer::refused(number),
-    }
+    point::read_in(file, check::open_file(file, base, zone)?, point)
 }

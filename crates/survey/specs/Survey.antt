@@ -82,7 +82,7 @@ unfoldable pub upload : List ℕ → ℕ → ℕ → Lists → Outcome Lists
 upload file b z l = admitted file b z (unfit l) and_then λ t. given (with_answers (answer_of file b z l) l (point_count l))
 
 -- the answer of `janlishuk_upload` as the caller gets it
-abbrev pub upload_answer : Outcome Lists → UploadAnswer
+abbrev pub upload_answer : {A : Type 0} → Outcome A → UploadAnswer
 upload_answer o = record { refusal = refusal_number o; place = refusal_place o }
 
 -- what an upload leaves: the answer, and the lists as the caller gets them back; a refusal "writes nothing"

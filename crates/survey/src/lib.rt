@@ -2,24 +2,44 @@
 #![tactic(auto)]
 
 ghost use Rattle.std.specs.Prelude.{◌≡◌, false, set};
-ghost use Rattle.terrain.specs.Check.{Gave, checked_means};
-ghost use Rattle.survey.specs.Survey.{five_lists, point_of, unfit_lengths, unfit, admitted, Uploaded};
+ghost use Rattle.ground.specs.Refusal.{outcome_of};
+ghost use Rattle.terrain.specs.Check.{Gave};
+ghost use Rattle.survey.specs.Survey.{five_lists, point_of, unfit_lengths, unfit, admitted, upload_answer, Uploaded};
 ghost use Rattle.survey.specs.Inside.{IsPoint, HasEntry, InBytes, HasAnswers};
 
 use ground::measure::Metres;
 use ground::point::Point;
+use ground::refusal::Refusal;
 use reading::point::ReadAnswer;
-use terrain::check::{Checked, Terrain};
+use terrain::check;
+use terrain::check::Terrain;
 
 // Most points of a survey.
 pub const MOST_POINTS: usize = 256;
 
-// The answer to a survey, whose readings are in the lent lists; or a refusal.
+// What C gets of a survey, whose readings are in the lent lists: 0 and 0, or a refusal.
 #[repr(C)]
 #[derive(Clone, Copy)]
 pub struct UploadAnswer {
     pub refusal: u32,
     pub place: u32,
+}
+
+impl From<Result<(), Refusal>> for UploadAnswer {
+    ghost from_gives = { λ uploaded answer. answer ≡ upload_answer (outcome_of uploaded) };
+
+    fn from(uploaded: Result<(), Refusal>) -> UploadAnswer {
+        match uploaded {
+            Ok(()) => UploadAnswer {
+                refusal: 0,
+                place: 0,
+            },
+            Err(refusal) => UploadAnswer {
+                refusal: refusal.number(),
+                place: 0,
+            },
+        }
+    }
 }
 
 // Whether lists of these lengths do not fit together: the two lists of points differ in length or hold
@@ -40,19 +60,14 @@ fn are_unfit(
 
 // The file of a base and a zone, where it passes and the lists fit; or refusal 1, 2, 3 or 10, in that
 // order.
-fn admit(file: &[u8], base: u32, zone: u32, unfit: bool) -> Checked
-    ensures { checked_means result ≡ admitted file.now base zone unfit }
+fn admit(file: &[u8], base: u32, zone: u32, unfit: bool) -> Result<Terrain, Refusal>
+    ensures { outcome_of result ≡ admitted file.now base zone unfit }
 {
-    match terrain::check::check_file(file, base, zone) {
-        Checked::Passed(terrain) => {
-            if unfit {
-                Checked::Refused(10)
-            } else {
-                Checked::Passed(terrain)
-            }
-        }
-        Checked::Refused(number) => Checked::Refused(number),
+    let terrain = check::check_file(file, base, zone)?;
+    if unfit {
+        return Err(Refusal::UnfitLists);
     }
+    Ok(terrain)
 }
 
 // Point i of a survey, of this zone.
@@ -80,7 +95,8 @@ fn enter(heights: &mut [u32], codes: &mut [u8], refusals: &mut [u8], i: usize, a
 }
 
 // Reads each point of a survey in a checked file, in the file's zone, and enters its height, its code
-// and its refusal, 0, 4, 5 or 6, into the lists. Entries after the last point stay.
+// and its refusal, 0, 4, 5 or 6, into the lists. Entries after the last point stay. The number i is the entry
+// of five lists that C lends, which a chain of zips would only take apart again.
 fn read_each(
     file: &[u8],
     terrain: Terrain,
@@ -98,8 +114,8 @@ fn read_each(
     let ground = terrain.ground;
     for i in 0..eastings.len() {
         let point = point_at(eastings, northings, i, ground.zone);
-        let answer = reading::point::read_in(file, terrain, point);
-        enter(heights, codes, refusals, i, answer);
+        let read = reading::point::read_in(file, terrain, point);
+        enter(heights, codes, refusals, i, ReadAnswer::from(read));
     }
 }
 
@@ -113,11 +129,11 @@ pub fn upload(
     heights: &mut [u32],
     codes: &mut [u8],
     refusals: &mut [u8],
-) -> UploadAnswer
+) -> Result<(), Refusal>
     ensures { Uploaded file.now base zone
         (five_lists eastings.entry.now northings.entry.now heights.old codes.old refusals.old)
         (five_lists eastings.exit.now northings.exit.now heights.new codes.new refusals.new)
-        result }
+        (upload_answer (outcome_of result)) }
 {
     let unfit = are_unfit(
         eastings.len(),
@@ -126,14 +142,7 @@ pub fn upload(
         codes.len(),
         refusals.len(),
     );
-    match admit(file, base, zone, unfit) {
-        Checked::Passed(terrain) => {
-            read_each(file, terrain, eastings, northings, heights, codes, refusals);
-            UploadAnswer {
-                refusal: 0,
-                place: 0,
-            }
-        }
-        Checked::Refused(refusal) => UploadAnswer { refusal, place: 0 },
-    }
+    let terrain = admit(file, base, zone, unfit)?;
+    read_each(file, terrain, eastings, northings, heights, codes, refusals);
+    Ok(())
 }

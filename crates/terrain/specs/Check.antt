@@ -1,6 +1,6 @@
 -- The check of a terrain file. Document 01, "Bytes of a file" and "The numbers we say no with". Assumes nothing.
 use Rattle.std.specs.Prelude.{◌≡◌, not, List, ℕ, ◌+◌, ◌-◌}
-use Rattle.ground.specs.Outcome.{Outcome, given, refused, unless, ◌and_then◌, refusal_number, refusal_place, filled_by}
+use Rattle.ground.specs.Outcome.{Outcome, given, unless, ◌and_then◌, refusal_number, refusal_place, filled_by}
 use Rattle.ground.specs.Boundary.{rows, named}
 use Rattle.ground.specs.Ground.{ground_of}
 use Rattle.ground.specs.declared.Ground.{Ground}
@@ -8,8 +8,6 @@ use Rattle.index.specs.Bytes.{whole_records}
 use Rattle.index.specs.Index.{highest, highest_passes, index_passes}
 use Rattle.terrain.specs.declared.check.Terrain.{Terrain}
 use Rattle.terrain.specs.declared.check.CheckAnswer.{CheckAnswer}
-use Rattle.terrain.specs.declared.check.Checked.{Checked}
-use Rattle.terrain.specs.declared.check.Checked.TheVariants.{Passed, Refused}
 
 -- what is known of a file on this ground with this M: `past`, the number of records from 7 to M, stands for M
 abbrev pub terrain_of : (ground : Ground) → (M : ℕ) → Terrain
@@ -35,10 +33,9 @@ checked file b z =
     (unless (not (index_passes file (rows b))) 3
     (given (terrain_of (ground_of b z) (highest file)))))
 
--- what each case of `Checked` means
-abbrev pub checked_means : Checked → Outcome Terrain
-checked_means (Passed t) = given t
-checked_means (Refused number) = refused number 0
+-- M of a file that passes, or a refusal, as C gets it
+abbrev pub highest_answer : Outcome ℕ → CheckAnswer
+highest_answer o = record { refusal = refusal_number o; place = refusal_place o; highest = filled_by 0 o }
 
 -- the answer of `janlishuk_check` as the caller gets it: a check that passes answers M
 abbrev pub check_answer : Outcome Terrain → CheckAnswer

@@ -12,8 +12,6 @@ use Rattle.index.specs.Index.{position, is_record}
 use Rattle.terrain.specs.Check.{checked}
 use Rattle.terrain.specs.declared.check.Terrain.{Terrain}
 use Rattle.terrain.specs.declared.record.Taken.{Taken}
-use Rattle.terrain.specs.declared.record.Sought.{Sought}
-use Rattle.terrain.specs.declared.record.Sought.TheVariants.{From, Refused}
 
 -- what the index says of rectangle n: the number in its position, in a checked file that of its record or 0. Rectangle 0 has no position and is never covered
 unfoldable pub entry : List ℕ → ℕ → ℕ
@@ -60,11 +58,6 @@ vouched M t = unless (not (is_record t.entry M)) 3 (given t)
 -- 1, 2, 3 for the file, then the record in it
 unfoldable pub record_for : List ℕ → ℕ → ℕ → Point → Outcome Taken
 record_for file b z p = checked file b z and_then λ t. record_in file t p
-
--- what each case of `Sought` means
-abbrev pub sought_means : Sought → Outcome Taken
-sought_means (From t) = given t
-sought_means (Refused number) = refused number 0
 
 -- the bytes of the record as the caller gets it: none beside a refusal
 abbrev pub part_bytes : List ℕ → Outcome Taken → List ℕ

@@ -1,10 +1,14 @@
-// The check of a terrain file.
+// The check of a terrain file. Here and in the calls above, bytes, base and zone come one by one, as C passes them
+// and as each promise names them.
 ghost use Rattle.std.specs.Prelude.{◌≡◌, true};
 ghost use Rattle.index.specs.Bytes.{whole_records};
-ghost use Rattle.terrain.specs.Check.{opened_file, checked, checked_means, check_answer, Opens};
+ghost use Rattle.ground.specs.Outcome.{given, ◌and_then◌};
+ghost use Rattle.ground.specs.Refusal.{outcome_of};
+ghost use Rattle.terrain.specs.Check.{highest_of, opened_file, checked, highest_answer, Opens};
 ghost use Rattle.terrain.specs.Inside.{opened_on, checked_on};
 
-use ground::{Ground, Opened};
+use ground::Ground;
+use ground::refusal::Refusal;
 use index::bytes;
 
 // What is known of a file that was opened: how many records there are from 7 to M, past the index, and
@@ -15,15 +19,7 @@ pub struct Terrain {
     pub ground: Ground,
 }
 
-// What opening or checking a file comes to: what is known of it, where it passed the tests that were made,
-// or the number of the refusal.
-#[derive(Clone, Copy)]
-pub enum Checked {
-    Passed(Terrain),
-    Refused(u32),
-}
-
-// The check's answer: M, or a refusal.
+// M of a file that passes, or a refusal, as C gets it.
 #[repr(C)]
 #[derive(Clone, Copy)]
 pub struct CheckAnswer {
@@ -32,16 +28,35 @@ pub struct CheckAnswer {
     pub highest: u32,
 }
 
-// The ground and M of a file of whole records on this ground, or refusal 3 for M outside its range.
-fn open_on(file: &[u8], ground: Ground) -> Checked
-    requires { whole_records file.now ≡ true }
-    ensures { checked_means result ≡ opened_on file.now ground }
-{
-    let highest = bytes::nth(file, bytes::LAST) as u32;
-    if !index::highest_passes(file, highest) {
-        return Checked::Refused(3);
+impl From<Result<u32, Refusal>> for CheckAnswer {
+    ghost from_gives = { λ highest answer. answer ≡ highest_answer (outcome_of highest) };
+
+    fn from(highest: Result<u32, Refusal>) -> CheckAnswer {
+        match highest {
+            Ok(highest) => CheckAnswer {
+                refusal: 0,
+                place: 0,
+                highest,
+            },
+            Err(refusal) => CheckAnswer {
+                refusal: refusal.number(),
+                place: 0,
+                highest: 0,
+            },
+        }
     }
-    Checked::Passed(Terrain {
+}
+
+// The ground and M of a file of whole records on this ground, or refusal 3 for M outside its range.
+fn open_on(file: &[u8], ground: Ground) -> Result<Terrain, Refusal>
+    requires { whole_records file.now ≡ true }
+    ensures { outcome_of result ≡ opened_on file.now ground }
+{
+    let highest = u32::from(bytes::nth(file, bytes::LAST));
+    if !index::highest_passes(file, highest) {
+        return Err(Refusal::Damaged);
+    }
+    Ok(Terrain {
         past: highest - bytes::INDEX as u32,
         ground,
     })
@@ -49,55 +64,41 @@ fn open_on(file: &[u8], ground: Ground) -> Checked
 
 // The ground and M of the file of a base and a zone; or refusal 1, 2, or 3 for M outside its range. Of
 // the index only M is looked at.
-pub fn open_file(file: &[u8], base: u32, zone: u32) -> Checked
-    ensures { checked_means result ≡ opened_file file.now base zone }
+#[tactic(auto, using(crate::proofs::Laws::Checked::opened_steps))]
+pub fn open_file(file: &[u8], base: u32, zone: u32) -> Result<Terrain, Refusal>
+    ensures { outcome_of result ≡ opened_file file.now base zone }
 {
     if !bytes::is_whole(file) {
-        return Checked::Refused(1);
+        return Err(Refusal::NotWhole);
     }
-    match Ground::open(base, zone) {
-        Opened::On(ground) => open_on(file, ground),
-        Opened::Refused(number) => Checked::Refused(number),
-    }
+    open_on(file, Ground::open(base, zone)?)
 }
 
 // What is known of a file that was opened, where its index passes; or refusal 3.
-fn check_on(file: &[u8], terrain: Terrain) -> Checked
+fn check_on(file: &[u8], terrain: Terrain) -> Result<Terrain, Refusal>
     requires { Opens file.now terrain }
-    ensures { checked_means result ≡ checked_on file.now terrain }
+    ensures { outcome_of result ≡ checked_on file.now terrain }
 {
     let ground = terrain.ground;
     let highest = bytes::INDEX + terrain.past as usize;
     if !index::passes(file, highest, ground.rows()) {
-        return Checked::Refused(3);
+        return Err(Refusal::Damaged);
     }
-    Checked::Passed(terrain)
+    Ok(terrain)
 }
 
 // What is known of the file of a base and a zone that passes, or refusal 1, 2 or 3.
-pub fn check_file(file: &[u8], base: u32, zone: u32) -> Checked
-    ensures { checked_means result ≡ checked file.now base zone }
+#[tactic(auto, using(crate::proofs::Laws::Checked::checked_steps))]
+pub fn check_file(file: &[u8], base: u32, zone: u32) -> Result<Terrain, Refusal>
+    ensures { outcome_of result ≡ checked file.now base zone }
 {
-    match open_file(file, base, zone) {
-        Checked::Passed(terrain) => check_on(file, terrain),
-        Checked::Refused(number) => Checked::Refused(number),
-    }
+    check_on(file, open_file(file, base, zone)?)
 }
 
 // M of a file that passes, or refusal 1, 2 or 3.
-pub fn check(file: &[u8], base: u32, zone: u32) -> CheckAnswer
-    ensures { result ≡ check_answer (checked file.now base zone) }
+pub fn check(file: &[u8], base: u32, zone: u32) -> Result<u32, Refusal>
+    ensures { outcome_of result ≡ (checked file.now base zone and_then λ t. given (highest_of t)) }
 {
-    match check_file(file, base, zone) {
-        Checked::Passed(terrain) => CheckAnswer {
-            refusal: 0,
-            place: 0,
-            highest: bytes::INDEX as u32 + terrain.past,
-        },
-        Checked::Refused(refusal) => CheckAnswer {
-            refusal,
-            place: 0,
-            highest: 0,
-        },
-    }
+    let terrain = check_file(file, base, zone)?;
+    Ok(bytes::INDEX as u32 + terrain.past)
 }

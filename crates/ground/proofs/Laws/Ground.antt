@@ -11,11 +11,9 @@ use borrow.Author.Tests.{leb-true, ltb-true, eqb-true, le-leb, lt-ltb, eq-eqb, n
 use Rattle.ground.specs.Measure.{in_units}
 use Rattle.ground.specs.Boundary.{is_base, is_zone, named, rows}
 use Rattle.ground.specs.Outcome.{given}
-use Rattle.ground.specs.Ground.{ground_of, rows_of, opened, opened_means, on_ground, holds}
+use Rattle.ground.specs.Ground.{ground_of, rows_of, opened, on_ground, holds}
 use Rattle.ground.specs.declared.point.Point.{Point}
 use Rattle.ground.specs.declared.Ground.{Ground}
-use Rattle.ground.specs.declared.Opened.{Opened}
-use Rattle.ground.specs.declared.Opened.TheVariants.{On, Refused}
 use Rattle.ground.proofs.Laws.Outcome.{past}
 use Rattle.ground.proofs.Laws.Boundary.{base_at_lem, rows_28_29, rising}
 
@@ -60,13 +58,6 @@ opened_is b z g e =
     let n = named_is b z (not-false _ t.0) in
     let i : g ≡ ground_of b z = cc in
     record { named = n; is = i; rising = rw i (le_of_lt (rising (omega arith))); rows = rw (i, rows_are b z) (rows_28_29 b n.base) }
-
--- two answers that mean the same are the same
-pub opened_once : (r s : Opened) → opened_means r ≡ opened_means s → r ≡ s
-opened_once (On g) (On h) e = cc
-opened_once (On g) (Refused k) e = cc
-opened_once (Refused k) (On g) e = cc
-opened_once (Refused k) (Refused l) e = cc
 
 -- a point of the ground's zone, between its edges
 pub record Held (g : Ground) (p : Point) : Type 0 where

@@ -9,15 +9,12 @@ use lib.Dec.{lit<}
 use mir.Syntax.{w32}
 use mir.Val.{Fits}
 use Rattle.ground.specs.Ground.{holds}
-use Rattle.ground.specs.Place.{weights_of, place_at, place_of, word, words_of, located_means, Each}
+use Rattle.ground.specs.Place.{Weights, weights_of, place_at, place_of, word, words_of, Each}
 use Rattle.ground.specs.Seam.{GridHolds}
 use Rattle.ground.specs.declared.measure.Metres.{Metres}
 use Rattle.ground.specs.declared.point.Point.{Point}
 use Rattle.ground.specs.declared.Ground.{Ground}
-use Rattle.ground.specs.declared.Located.{Located}
-use Rattle.ground.specs.declared.Located.TheVariants.{At, Refused}
 use Rattle.ground.specs.declared.place.Place.{Place}
-use Rattle.ground.specs.declared.place.Weights.{Weights}
 use Rattle.ground.proofs.Laws.Size.{axis, square}
 use Rattle.ground.proofs.Laws.Ground.{held}
 
@@ -68,13 +65,6 @@ each f e = record { sw = f _ e.sw; se = f _ e.se; nw = f _ e.nw; ne = f _ e.ne }
 -- a weight fits a u32
 pub weight_fits : (a b : ℕ) → a ≤ 500 → b ≤ 500 → Fits w32 (a * b)
 weight_fits a b ha hb = record { fits = lt_of_le_of_lt (mul-le-mul ha hb) (lit< tt) }
-
--- two answers that mean the same are the same
-pub located_once : (r s : Located) → located_means r ≡ located_means s → r ≡ s
-located_once (At a) (At b) e = cc
-located_once (At a) (Refused k) e = cc
-located_once (Refused k) (At a) e = cc
-located_once (Refused k) (Refused l) e = cc
 
 -- each weight is a product of a part east and a part north; with `weighs`, this leaves one set of weights
 pub cross : (fx fy : Metres) → (weights_of fx fy).sw * (weights_of fx fy).ne ≡ (weights_of fx fy).se * (weights_of fx fy).nw

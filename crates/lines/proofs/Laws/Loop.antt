@@ -4,12 +4,12 @@
 use mathlib.Core.Path.{◌≡◌, refl, sym, ◌∙◌}
 use mathlib.Core.Bool.{Bool, true, false}
 use mathlib.Core.List.{List, [], ◌∷◌}
-use Prim.Native.Nat.{ℕ, zero, suc, ◌+◌, ◌-◌, ◌*◌, ◌^◌, ◌≤◌, ◌<◌}
+use Prim.Native.Nat.{ℕ, zero, suc, ◌+◌, ◌-◌, ◌*◌, ◌^◌, ◌≤◌, ◌<◌, min}
 use native.Mathlib.Nat.{zero-add, mul_assoc, mul_comm, mul-one, mul-zero, suc-mul, pow-succ'}
-use native.Mathlib.Nat.{le_trans, mul-le-mul_left, mul-le-mul_right, one-le-pow, pow-le-pow_right}
-use native.Mathlib.Numerals.{sub-one}
+use native.Mathlib.Nat.{le_trans, mul-le-mul_left, mul-le-mul_right, one-le-pow}
+use native.Mathlib.Numerals.{add-one}
 use native.Mathlib.Omega.{arith}
-use lib.ListN.{get_or, take, drop}
+use lib.ListN.{length, get_or, take, drop, drop_of_length-le}
 use Rattle.lines.specs.Spell.{digit, in_name, value_after}
 use Rattle.lines.specs.Line.{◌then◌, nothing, one, run, some}
 use Rattle.lines.specs.Key.{letter, key_after}
@@ -50,11 +50,13 @@ headed first test count make {s} {from} {b} w =
     both (λ b. some test (count b) then λ w. nothing (make b w)) w
     (both (λ w. nothing (make b w)) (ran test s (from + 1) (count b)) (stays (make b (taken test s (from + 1) (count b))) s _))
 
--- no bytes are taken where none may be
-none_left : (test : ℕ → Bool) (l : List ℕ) (left : ℕ) → left ≤ 0 → run test left l ≡ 0
+-- no bytes are taken where none may be, or none is left
+none_left : (test : ℕ → Bool) (s : List ℕ) (at left : ℕ) → min (length s) (at + left) ≤ at → run test left (drop at s) ≡ 0
 unfolding run
-none_left test l zero h = refl
-none_left test l (suc n) h = absurd (omega arith)
+none_left test s at zero h = refl
+none_left test s at (suc n) h =
+    let past : length s ≤ at = omega arith in
+    rw (drop_of_length-le s past)
 
 -- or where the first does not pass
 none_passes : (test : ℕ → Bool) (s : List ℕ) (at left : ℕ) {b : ℕ} → b ≡ get_or s at 10 → test b ≡ false → run test left (drop at s) ≡ 0
@@ -82,40 +84,32 @@ module _ {test : ℕ → Bool} {base : ℕ} {figure : ℕ → ℕ} {gather : ℕ
   pub headed_by : (b : ℕ) (w : List ℕ) → gather 0 (b ∷ w) ≡ gather (figure b) w
   headed_by b w = rw (d.more 0 b w, mul-zero, zero-add)
 
-  -- the loop begins with one digit
-  pub gathers : (s : List ℕ) (top x from count : ℕ) → x < base → count < top → Gathers test base gather s top x from count x from count
-  gathers s top x from count h k = record {
-    room = le_trans (mul-le-mul_right (base ^ count) h) (rw pow-succ' at (pow-le-pow_right {n = base} (omega arith) k));
-    value = refl;
-    place = refl;
-  }
-
   -- what it has come to is below the power
   pub room_left : {s : List ℕ} {top x₀ from count x at left : ℕ} → 0 < base → Gathers test base gather s top x₀ from count x at left → x < base ^ top
   room_left {x = x} {left = left} h g = le_trans (rw mul-one at (mul-le-mul_left (suc x) (one-le-pow left base h))) g.room
 
   -- one more byte passes
-  pub gathers_more : {s : List ℕ} {top x₀ from count x at left b : ℕ} → Gathers test base gather s top x₀ from count x at left → 0 < left
-      → b ≡ get_or s at 10 → test b ≡ true → Gathers test base gather s top x₀ from count (base * x + figure b) (at + 1) (left - 1)
+  pub gathers_more : {s : List ℕ} {top x₀ from count x at left less b : ℕ} → Gathers test base gather s top x₀ from count x at left
+      → left ≡ less + 1 → b ≡ get_or s at 10 → test b ≡ true → Gathers test base gather s top x₀ from count (base * x + figure b) (at + 1) less
   unfolding run
-  gathers_more {left = zero} g h is t = absurd (omega arith)
-  gathers_more {s} {x = x} {at = at} {left = suc k} {b = b} g h is t =
+  gathers_more {s} {x = x} {at = at} {less = less} {b = b} g h is t =
       let q : drop at s ≡ b ∷ drop (at + 1) s = rw is (begins s at 10 (among test s at is d.feed t)) in
-      let less : suc (base * x + figure b) ≤ suc x * base = rw (suc-mul, mul_comm base x) (omega (arith, d.small b t)) in
-      rw (sub-one) (record {
-        room = le_trans (mul-le-mul_right (base ^ k) less) (rw (pow-succ', ← mul_assoc) at g.room);
-        value = sym (d.more x b _) ∙ (simp (q, t) at g.value);
-        place = omega (arith, (simp (q, t) at g.place));
-      })
+      let below : suc (base * x + figure b) ≤ suc x * base = rw (suc-mul, mul_comm base x) (omega (arith, d.small b t)) in
+      let g' = rw (h, add-one) at g in
+      record {
+        room = le_trans (mul-le-mul_right (base ^ less) below) (rw (pow-succ', ← mul_assoc) at g'.room);
+        value = sym (d.more x b _) ∙ (simp (q, t) at g'.value);
+        place = omega (arith, (simp (q, t) at g'.place));
+      }
 
   -- Where no byte more passes, that is the whole:
   module _ {s : List ℕ} {top x₀ from count x at left : ℕ} (g : Gathers test base gather s top x₀ from count x at left) where
     whole : run test left (drop at s) ≡ 0 → Gathered test gather s x₀ from count x at
     whole e = record { value = sym (d.none x) ∙ (simp e at g.value); place = omega (arith, g.place) }
 
-    -- no more may follow
-    pub gathered_all : left ≤ 0 → Gathered test gather s x₀ from count x at
-    gathered_all h = whole (none_left test (drop at s) left h)
+    -- no more may follow, or none is left
+    pub gathered_all : min (length s) (at + left) ≤ at → Gathered test gather s x₀ from count x at
+    gathered_all h = whole (none_left test s at left h)
 
     -- the next does not pass
     pub gathered_here : {b : ℕ} → b ≡ get_or s at 10 → test b ≡ false → Gathered test gather s x₀ from count x at

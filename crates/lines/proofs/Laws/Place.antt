@@ -1,16 +1,18 @@
 -- What stands at a place of some bytes, with a line feed past their end, and what is read from a place on: no bytes, one byte, one part and then
 -- another. From the definitions of the parts alone. Assumes nothing.
 use mathlib.Core.Path.{◌≡◌, refl, sym, ◌∙◌, ap}
-use mathlib.Core.Bool.{Bool, true, false, true≢false}
+use mathlib.Core.Bool.{Bool, true, false, cond, ◌&&◌, true≢false}
 use mathlib.Core.List.{List, [], ◌∷◌}
-use Prim.Native.Nat.{ℕ, zero, suc, ◌+◌, ◌<◌, suc-le-suc}
+use Prim.Native.Nat.{ℕ, zero, suc, ◌+◌, ◌-◌, ◌<◌, suc-le-suc}
 use native.Mathlib.Nat.{add_assoc, add-zero}
 use native.Mathlib.Numerals.{add-one}
 use native.Mathlib.Omega.{arith}
+use lib.Dec.{leb}
 use lib.ListN.{length, get_or, drop}
 use lib.Seq.{drop-cons, drop-drop}
+use Rattle.std.specs.Prelude.{Ok, Err}
 use Rattle.lines.specs.Line.{Part, part, stopped, later, ◌then◌, nothing, one}
-use Rattle.lines.specs.Inside.{found}
+use Rattle.lines.specs.Inside.{found, byte_from}
 
 -- a byte that is no line feed stands among the bytes
 pub within : (s : List ℕ) (at : ℕ) → (get_or s at 10 ≡ 10 → ⊥) → at < length s
@@ -57,29 +59,23 @@ module _ {A B : Type 0} {first : List ℕ → Part A} {s : List ℕ} {a : A} {fr
     both v =
         record { bytes = w.bytes + v.bytes; is = rw (w.is, drop-drop, w.place, v.is); place = omega (arith, w.place, v.place) }
 
-    -- the second stops
-    pub second_stops : {to : ℕ} → Halted (second a) s mid to → Halted (first then second) s from to
-    second_stops v =
-        record { bytes = w.bytes + v.bytes; is = rw (w.is, drop-drop, w.place, v.is); place = omega (arith, w.place, v.place) }
-
     -- what is handed over of both is what is handed over of the second, from its place on
-    pub goes_on : {C : Type 0} (right : B → ℕ → C) (wrong : ℕ → C)
-        → found right wrong from ((first then second) (drop from s)) ≡ found right wrong mid (second a (drop mid s))
-    goes_on right wrong = rw (w.is, ← w.place, drop-drop) (go (second a (drop (from + w.bytes) s)))
+    pub goes_on : {C : Type 0} (says : B → C) → found says from ((first then second) (drop from s)) ≡ found says mid (second a (drop mid s))
+    goes_on says = rw (w.is, ← w.place, drop-drop) (go (second a (drop (from + w.bytes) s)))
       where
-        go : (p : Part B) → found right wrong from (later w.bytes p) ≡ found right wrong (from + w.bytes) p
+        go : (p : Part B) → found says from (later w.bytes p) ≡ found says (from + w.bytes) p
         go (part b n) = rw add_assoc
         go (stopped k) = rw add_assoc
 
 -- what is handed over of a part that was read
-pub hands : {A B : Type 0} (right : A → ℕ → B) (wrong : ℕ → B) {reader : List ℕ → Part A} {s : List ℕ} {a : A} {from to : ℕ}
-    → Went reader s a from to → right a to ≡ found right wrong from (reader (drop from s))
-hands right wrong w = rw (w.is, w.place)
+pub hands : {A B : Type 0} (says : A → B) {reader : List ℕ → Part A} {s : List ℕ} {a : A} {from to : ℕ}
+    → Went reader s a from to → Ok (record { value = says a; at = to }) ≡ found says from (reader (drop from s))
+hands says w = rw (w.is, w.place)
 
 -- and where none was
-pub halts : {A B : Type 0} (right : A → ℕ → B) (wrong : ℕ → B) {reader : List ℕ → Part A} {s : List ℕ} {from to : ℕ}
-    → Halted reader s from to → wrong to ≡ found right wrong from (reader (drop from s))
-halts right wrong h = rw (h.is, h.place)
+pub halts : {A B : Type 0} (says : A → B) {reader : List ℕ → Part A} {s : List ℕ} {from to : ℕ}
+    → Halted reader s from to → Err to ≡ found says from (reader (drop from s))
+halts says h = rw (h.is, h.place)
 
 -- One byte, at a place of some bytes:
 module _ (test : ℕ → Bool) (s : List ℕ) (from : ℕ) {b : ℕ} (is : b ≡ get_or s from 10) (feed : test 10 ≡ false) where
@@ -102,3 +98,23 @@ module _ (test : ℕ → Bool) (s : List ℕ) (from : ℕ) {b : ℕ} (is : b ≡
       go [] (suc n) h = refl
       go (x ∷ l) zero h = rw h
       go (x ∷ l) (suc n) h = go l n h
+
+-- One byte between two, as its place from the first:
+module _ (s : List ℕ) (at first last : ℕ) where
+  -- where one is handed over, it is between them
+  pub byte_is : {d : ℕ} → Ok d ≡ byte_from s at first last
+      → ((leb first (get_or s at 10) && leb (get_or s at 10) last) ≡ true) × (d ≡ get_or s at 10 - first)
+  byte_is {d} e = go (leb first (get_or s at 10) && leb (get_or s at 10) last) e
+    where
+      go : (t : Bool) → Ok d ≡ cond t (Ok (get_or s at 10 - first)) (Err at) → (t ≡ true) × (d ≡ get_or s at 10 - first)
+      go true e = (refl, cc)
+      go false e = absurd cc
+
+  -- where a place is handed over, the byte there is not
+  pub byte_none : {k : ℕ} → Err k ≡ byte_from s at first last
+      → ((leb first (get_or s at 10) && leb (get_or s at 10) last) ≡ false) × (k ≡ at)
+  byte_none {k} e = go (leb first (get_or s at 10) && leb (get_or s at 10) last) e
+    where
+      go : (t : Bool) → Err k ≡ cond t (Ok (get_or s at 10 - first)) (Err at) → (t ≡ false) × (k ≡ at)
+      go true e = absurd cc
+      go false e = (refl, cc)

@@ -1,89 +1,56 @@
 -- `read_line` meets its contract: the command at the place is that of its line, since no command has a line feed in it, and after it the line has
 -- to end. Assumes nothing.
-use borrow.Author.Tests.{ne_eqb, not-true, not-false}
-use mathlib.Core.Path.{◌≡◌, sym, ◌∙◌, ap}
-use mathlib.Core.Bool.{cond}
-use mathlib.Core.List.{List}
-use Prim.Native.Nat.{ℕ, ◌+◌, ◌-◌}
-use native.Mathlib.Omega.{arith}
+use Rattle.std.proofs.Common.{◌≡◌, refl, ◌∙◌, ap, Bool, true, false, cond, List, ℕ, ◌+◌, ◌-◌, ◌≤◌, get_or, drop, length, Result, Ok, Err, arith}
 use lib.Dec.{eqb}
-use lib.ListN.{get_or, drop}
 use lib.Seq.{get_or-drop}
 use Rattle.lines.specs.Spell.{Command}
-use Rattle.lines.specs.Line.{legal, bad, command, reading}
-use Rattle.lines.specs.Key.{keyed}
-use Rattle.lines.specs.Text.{line_at}
-use Rattle.lines.specs.Inside.{ReadsLine}
+use Rattle.lines.specs.Line.{Part, part, stopped, legal, bad, command, reading}
+use Rattle.lines.specs.Key.{keyed, keyed_command}
+use Rattle.lines.specs.Text.{first_line, line_at}
+use Rattle.lines.specs.Inside.{said_from, ended_from, ReadsLine}
 use Rattle.lines.specs.declared.Line.{Line}
-use Rattle.lines.specs.declared.Line.TheVariants as line
-use Rattle.lines.specs.declared.Said.{Said}
-use Rattle.lines.proofs.Laws.Place.{Went, Halted}
-use Rattle.lines.proofs.Laws.Handed.{said, GotCommand, got, lost}
+use Rattle.lines.specs.declared.Read.{Read}
+use Rattle.lines.specs.declared.word.Token.{Token}
 use Rattle.lines.proofs.Laws.Feed.{command_of_line, command_within, wrong_within, line_ends, line_short}
-use Rattle.lines.proofs.read_line.Goals.{Else-not-said}
 use Rattle.lines.proofs.read_line.Goals as goal
 
--- no command is read
-none_read : {s : List ℕ} {from to : ℕ} → Halted command s from to → ReadsLine s from (record { line = line.Bad (to - from + 1); at = to })
-unfolding reading
-none_read {s} {from} {to} h =
-    record {
-      line = rw (command_of_line (drop from s), h.is) (ap line.Bad (omega (arith, h.place)));
-      after = omega (arith, h.place);
-      within = omega (arith, h.place, wrong_within (drop from s) h.is);
-    }
+module _ (s : List ℕ) (from : ℕ) where
+  -- what is said of a line by the command that it is
+  abbrev say : Result (Token Line) ℕ → Read
+  say (Ok said) = record { line = Ok said.value; at = said.at }
+  say (Err at) = record { line = Err (at - from + 1); at = at }
 
--- A command is read:
-module _ {s : List ℕ} {c : Command} {from to : ℕ} (w : Went command s c from to) where
-  -- a line feed, or the end of the bytes, has to follow
-  ended_by : reading (line_at s from) ≡ cond (eqb (get_or s to 10) 10) (legal c) (bad (w.bytes + 1))
+  reads : ReadsLine s from (say (ended_from s (said_from from (command (drop from s)))))
   unfolding reading
-  ended_by = rw (command_of_line (drop from s), w.is, line_ends (drop from s) w.bytes (command_within (drop from s) w.is), get_or-drop, w.place)
+  reads = go (command (drop from s)) refl
+    where
+      -- a line feed, or the end of the bytes, has to follow a command
+      ended : (c : Command) (n : ℕ) (t : Bool) → n ≤ length (first_line (drop from s)) → keyed (cond t (legal c) (bad (n + 1))) ≡ keyed (reading (line_at s from))
+          → ReadsLine s from (say (cond t (Ok (record { value = keyed_command c; at = from + n })) (Err (from + n))))
+      ended c n true h e = record { line = e; after = omega arith; within = omega arith }
+      ended c n false h e = record { line = ap Err (omega arith) ∙ e; after = omega arith; within = omega arith }
 
-  -- what is said of its line
-  reads : {l : Line} → l ≡ keyed (reading (line_at s from)) → ReadsLine s from (record { line = l; at = to })
-  reads e =
-      record { line = e; after = omega (arith, w.place); within = omega (arith, w.place, command_within (drop from s) w.is) }
+      go : (x : Part Command) → command (drop from s) ≡ x → ReadsLine s from (say (ended_from s (said_from from x)))
+      go (part c n) e =
+          let h = command_within (drop from s) e in
+          ended c n (eqb (get_or s (from + n) 10) 10) h (rw (command_of_line (drop from s), e, line_ends (drop from s) n h, get_or-drop))
+      go (stopped k) e =
+          record {
+            line = rw (command_of_line (drop from s), e) (ap Err (omega arith));
+            after = omega arith;
+            within = omega (arith, wrong_within (drop from s) e);
+          }
 
-  -- where another byte follows, and where none does
-  read-wrong : (get_or s to 10 ≡ 10 → ⊥) → ReadsLine s from (record { line = line.Bad (to - from + 1); at = to })
-  read-wrong n = reads (rw (ended_by, ne_eqb (get_or s to 10) 10 n) (ap line.Bad (omega (arith, w.place))))
+  told : {r : Result (Token Line) ℕ} → r ≡ ended_from s (said_from from (command (drop from s))) → ReadsLine s from (say r)
+  told e = rw e reads
 
-  read_right : {l : Line} → get_or s to 10 ≡ 10 → l ≡ keyed (legal c) → ReadsLine s from (record { line = l; at = to })
-  read_right e q = reads (rw (ended_by, e) q)
+pub returns-in-Ok : goal.returns-in-Ok
+returns-in-Ok c = told c.args.s.now c.args.from c.in-Ok.ensures
 
-pub returns-then-not-said : goal.returns-then-not-said
-returns-then-not-said c =
-    let a = c.args in
-    none_read (lost said command a.s.now a.from _ c.read_command-said.ensures (not-true _ c.if-not-said.true))
-
-pub overflow_sub-result : goal.overflow_sub-result
-overflow_sub-result c = (returns-then-not-said c).after
+pub returns-in-Err : goal.returns-in-Err
+returns-in-Err c = told c.args.s.now c.args.from c.in-Err.ensures
 
 pub overflow_add-result : goal.overflow_add-result
 overflow_add-result c =
-    let a = c.args in
-    omega (arith, (returns-then-not-said c).after, (returns-then-not-said c).within, line_short a.s.now a.from)
-
--- Past the refusal:
-is-command : (c : Else-not-said) → (
-    GotCommand c.args.s.now c.args.from c.read_command-said.result
-    )
-is-command c = got said command _ _ _ c.read_command-said.ensures (not-false _ c.if-not-said.false)
-
-pub returns-then-byte_at-ne-LINE_FEED : goal.returns-then-byte_at-ne-LINE_FEED
-returns-then-byte_at-ne-LINE_FEED c = read-wrong (is-command (goal.at.returns-then-byte_at-ne-LINE_FEED c).Else-not-said).went λ e. c.if-byte_at-ne-LINE_FEED.true (c.byte_at.ensures ∙ e)
-
-pub overflow_sub-result-then-byte_at-ne-LINE_FEED : goal.overflow_sub-result-then-byte_at-ne-LINE_FEED
-overflow_sub-result-then-byte_at-ne-LINE_FEED c = (returns-then-byte_at-ne-LINE_FEED c).after
-
-pub overflow_add-result-then-byte_at-ne-LINE_FEED : goal.overflow_add-result-then-byte_at-ne-LINE_FEED
-overflow_add-result-then-byte_at-ne-LINE_FEED c =
-    let a = c.args in
-    omega (arith, (returns-then-byte_at-ne-LINE_FEED c).after, (returns-then-byte_at-ne-LINE_FEED c).within, line_short a.s.now a.from)
-
-pub returns : goal.returns
-returns c =
-    let is = is-command (goal.at.returns c).Else-not-said in
-    let line : Said → Line = λ r. r.line in
-    read_right is.went (sym c.byte_at.ensures ∙ c.if-byte_at-ne-LINE_FEED.false) (ap line is.is)
+    let r = told c.args.s.now c.args.from c.in-Err.ensures in
+    omega (arith, r.after, r.within, line_short c.args.s.now c.args.from)

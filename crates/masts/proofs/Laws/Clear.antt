@@ -1,38 +1,18 @@
 -- The clear test, sample by sample; and what taller masts do to it: the line between the ends is nowhere lower, so a clear path stays clear.
 -- Assumes nothing.
-use mathlib.Core.Path.{◌≡◌, ◌∙◌}
+use mathlib.Core.Path.{◌≡◌}
 use mathlib.Core.Bool.{true, false}
 use mathlib.Core.Logic.{◌↔◌}
-use Prim.Native.Nat.{ℕ, ◌+◌, ◌-◌, ◌≤◌, ◌<◌}
+use Prim.Native.Nat.{ℕ, ◌-◌, ◌≤◌, ◌<◌}
 use native.Mathlib.Nat.{mul-le-mul_left}
 use native.Mathlib.Omega.{arith}
 use borrow.Author.Tests.{le-leb, lt-leb, leb-true}
 use Rattle.ground.specs.Every.{every}
-use Rattle.ground.proofs.Laws.Every.{next, none, holds, holds_at, fails_at, agree}
+use Rattle.ground.proofs.Laws.Every.{holds, holds_at, fails_at, agree}
 use Rattle.path.specs.Path.{line}
 use Rattle.masts.specs.Clear.{clear_at, clear_by}
 
--- the samples from 1 to before i are clear
-pub record ClearTo (needs : ℕ → ℕ) (n A B i : ℕ) : Type 0 where
-  pub first : 1 ≤ i
-  pub most : i ≤ n
-  pub clear : every (clear_at needs n A B) 1 i ≡ true
-
 module _ (needs : ℕ → ℕ) (n A B : ℕ) where
-  -- no sample yet
-  pub clear_none : 1 ≤ n → ClearTo needs n A B 1
-  clear_none h = record { first = omega arith; most = h; clear = none (clear_at needs n A B) 1 }
-
-  -- a sample more, at which the line is not below the need
-  pub clear_more : (i : ℕ) → ClearTo needs n A B i → i < n → needs i ≤ line n A B i → ClearTo needs n A B (i + 1)
-  clear_more i t l h =
-      record { first = omega arith; most = omega arith; clear = next (clear_at needs n A B) 1 i t.first ∙ simp (t.clear, le-leb _ _ h) }
-
-  -- all samples
-  pub clear_all : {i : ℕ} → ClearTo needs n A B i → n ≤ i → clear_by needs n A B ≡ true
-  unfolding clear_by
-  clear_all {i} t h = let e : i ≡ n = omega (arith, t.most) in rw e at t.clear
-
   -- a sample at which the line is below the need blocks the path
   pub blocked : (i : ℕ) → 1 ≤ i → i < n → line n A B i < needs i → clear_by needs n A B ≡ false
   unfolding clear_by

@@ -1,22 +1,23 @@
 -- The search for masts: the least second mast for a first one, sample by sample, and the least sum, first mast by first mast. From the law of quotients
 -- rounded up, and from what a taller mast does. Assumes nothing.
-use mathlib.Core.Path.{◌≡◌, sym, ◌∙◌}
+use mathlib.Core.Path.{◌≡◌, refl, sym, ◌∙◌}
+use Rattle.std.specs.Prelude.{Option, Some, None, MatchOption}
 use mathlib.Core.Logic.{◌↔◌, ⊎_elim}
-use mathlib.Core.Bool.{Bool, true, false, ◌&&◌, and-true, and-eq-true_iff, true≢false}
+use mathlib.Core.Bool.{Bool, true, ◌&&◌, and-true, and-eq-true_iff, true≢false}
 use Prim.Native.Nat.{ℕ, ◌+◌, ◌-◌, ◌*◌, min, ◌≤◌, ◌<◌}
 use native.Mathlib.Nat.{mul-add, mul_assoc, mul_left_comm, le_refl, le_of_suc-le-suc, lt_of_not-le, eq-or-lt_of_le}
 use native.Mathlib.Decide.{dec_lt}
 use native.Mathlib.Omega.{arith}
-use lib.Dec.{leb, ltb}
-use borrow.Author.Tests.{le-leb, leb-true, ltb-false}
+use borrow.Author.Tests.{le-leb, leb-true}
 use Rattle.ground.specs.Every.{every}
 use Rattle.ground.proofs.Laws.Every.{next, none, holds, holds_at}
 use Rattle.path.specs.Path.{line}
 use Rattle.masts.specs.Clear.{rounded_up, clear_at, clear_by}
-use Rattle.masts.specs.Plan.{Pair, Best, NoPair}
-use Rattle.masts.specs.Inside.{Blocks, LeastSecond}
+use Rattle.masts.specs.Plan.{Pair, Demand3, planned_means}
+use Rattle.masts.specs.Inside.{BlockedAt, LeastSecond}
+use Rattle.masts.specs.declared.Masts.{Masts}
 use Rattle.masts.proofs.Laws.Rounding.{rounded_up_lem}
-use Rattle.masts.proofs.Laws.Clear.{ClearTo, clear_all, blocked, taller_to, taller}
+use Rattle.masts.proofs.Laws.Clear.{clear_is, blocked, taller_to, taller}
 
 -- a second mast that is taller by b - m metres lifts the line at sample i by 1000 i (b - m)
 lifted : (n A B i m b : ℕ) → m ≤ b → line n A (B + 1000 * b) i ≡ line n A (B + 1000 * m) i + 1000 * i * (b - m)
@@ -84,49 +85,42 @@ module _ {needs : ℕ → ℕ} {n A B : ℕ} where
   unfolding clear_by
   least_at_end w e = record { clear = rw e at w.clear; least = λ b t. w.least b (rw e t) }
 
--- The first masts below a have been tried. The sum is that of the clear pair with this first mast, or one more than that of the limits; no clear pair with
--- a first mast that was tried has a smaller one, and each with a lower first mast than this has a greater one.
-pub record Tried (clears : ℕ → ℕ → Bool) (la lb sum mast a : ℕ) : Type 0 where
+-- the first sample at which the line is below the need, or none, and then the path is clear
+pub first_blocked : (needs : ℕ → ℕ) (n A B : ℕ) (r : Option ℕ)
+    → MatchOption r ((k : ℕ) → 1 ≤ k → k < n → needs k ≤ line n A B k)
+    (λ i. (1 ≤ i) × (i < n) × (line n A B i < needs i) × ((k : ℕ) → 1 ≤ k → k < i → needs k ≤ line n A B k))
+    → MatchOption r (clear_by needs n A B ≡ true) (BlockedAt needs n A B)
+first_blocked needs n A B None all = (clear_is needs n A B).1 all
+first_blocked needs n A B (Some i) first = record { between = (first.0, first.1); blocked = first.2 }
+
+-- What is held before all first masts are tried: no pair yet, and one more than the limits' sum; or a clear pair with its sum, the pair with the
+-- lowest first mast of those with this sum.
+abbrev pub Held : (ℕ → ℕ → Bool) → (la lb sum : ℕ) → Option Masts → Type 0
+Held clears la lb sum None = sum ≡ la + lb + 1
+Held clears la lb sum (Some m) =
+    ((sum ≡ m.first + m.second) × Pair clears la lb m.first m.second)
+    × ((x y : ℕ) → Pair clears la lb x y → x < m.first → sum < x + y)
+
+-- The first masts below a have been tried: no clear pair with one of them has a smaller sum than the one that is held.
+pub record Tried (clears : ℕ → ℕ → Bool) (la lb sum : ℕ) (best : Option Masts) (a : ℕ) : Type 0 where
   pub most : sum ≤ la + lb + 1
-  pub under : mast ≤ sum
-  pub pair : sum ≤ la + lb → Pair clears la lb mast (sum - mast)
+  pub held : Held clears la lb sum best
   pub least : (x y : ℕ) → Pair clears la lb x y → x < a → sum ≤ x + y
-  pub lower : (x y : ℕ) → Pair clears la lb x y → x < mast → sum < x + y
-
--- where the test of the loop fails, a first mast within its limit is not below the sum
-pub past_loop : (a la sum : ℕ) → (leb a la && ltb a sum) ≡ false → a ≤ la → sum ≤ a
-past_loop a la sum e h = ltb-false a sum (rw (le-leb a la h) at e)
-
--- a sample that blocks
-pub blocks_at : (needs : ℕ → ℕ) (n A B i : ℕ) → 1 ≤ i → i < n → line n A B i < needs i → Blocks needs n A B i
-blocks_at needs n A B i l h b = record { first = l; most = omega arith; blocked = λ u. b; clear = λ u. absurd (omega arith) }
-
--- no sample blocks
-pub blocks_none : {needs : ℕ → ℕ} {n A B i : ℕ} → ClearTo needs n A B i → n ≤ i → Blocks needs n A B n
-blocks_none {needs} {n} {A} {B} t h =
-    record { first = omega (arith, t.first, t.most); most = omega arith; blocked = λ u. absurd (omega arith); clear = λ u. clear_all needs n A B t h }
 
 -- where a path is blocked with the second mast k, no lower one clears it
-pub none_clears : {needs : ℕ → ℕ} {n A r : ℕ} (B k : ℕ) → Blocks needs n A (B + 1000 * k) r → r < n → (y : ℕ) → y ≤ k
+pub none_clears : {needs : ℕ → ℕ} {n A r : ℕ} (B k : ℕ) → BlockedAt needs n A (B + 1000 * k) r → (y : ℕ) → y ≤ k
     → clear_by needs n A (B + 1000 * y) ≡ true → ⊥
-none_clears {needs} {n} {A} {r} B k b h y l t =
+none_clears {needs} {n} {A} {r} B k b y l t =
     let up = taller needs n A (B + 1000 * y) A (B + 1000 * k) (le_refl A) (omega arith) t in
-    true≢false (sym up ∙ blocked needs n A (B + 1000 * k) r b.first h (b.blocked h))
+    true≢false (sym up ∙ blocked needs n A (B + 1000 * k) r b.between.0 b.between.1 b.blocked)
 
 module _ {clears : ℕ → ℕ → Bool} {la lb : ℕ} where
   -- no first mast tried yet
-  pub none_found : Tried clears la lb (la + lb + 1) 0 0
-  none_found =
-      record {
-        most = omega arith;
-        under = omega arith;
-        pair = λ h. absurd (omega arith);
-        least = λ x y p h. absurd (omega arith);
-        lower = λ x y p h. absurd (omega arith);
-      }
+  pub none_found : Tried clears la lb (la + lb + 1) None 0
+  none_found = record { most = omega arith; held = refl; least = λ x y p h. absurd (omega arith) }
 
   -- no clear pair has a smaller sum with one first mast more
-  least_with : {sum mast a : ℕ} → Tried clears la lb sum mast a → (s : ℕ) → s ≤ sum → ((y : ℕ) → Pair clears la lb a y → s ≤ a + y)
+  least_with : {sum a : ℕ} {best : Option Masts} → Tried clears la lb sum best a → (s : ℕ) → s ≤ sum → ((y : ℕ) → Pair clears la lb a y → s ≤ a + y)
       → (x y : ℕ) → Pair clears la lb x y → x < a + 1 → s ≤ x + y
   least_with {a = a} t s h at x y p l = ⊎_elim
       (λ (q : x ≡ a). rw q (at y (rw q at p)))
@@ -134,53 +128,44 @@ module _ {clears : ℕ → ℕ → Bool} {la lb : ℕ} where
       (eq-or-lt_of_le (omega arith))
 
   -- the first mast a makes a clear pair with a smaller sum
-  pub found : {sum mast a k b : ℕ} → Tried clears la lb sum mast a → a ≤ la → a < sum → k ≡ min lb (sum - 1 - a)
-      → LeastSecond (clears a) b → clears a k ≡ true → Tried clears la lb (a + b) a (a + 1)
+  pub found : {sum a k b : ℕ} {best : Option Masts} → Tried clears la lb sum best a → a ≤ la → a < sum → k ≡ min lb (sum - 1 - a)
+      → LeastSecond (clears a) b → clears a k ≡ true → Tried clears la lb (a + b) (Some (record { first = a; second = b })) (a + 1)
   found {a = a} {k = k} {b = b} t l u e s c =
       let h : b ≤ k = s.least k c in
-      let back : a + b - a ≡ b = omega arith in
       record {
         most = omega arith;
-        under = omega arith;
-        pair = λ v. rw back (record { first = l; second = omega arith; clear = s.clear });
+        held = ((refl, record { first = l; second = omega arith; clear = s.clear }), λ x y p v. omega (arith, t.least x y p v));
         least = least_with t (a + b) (omega arith) λ y p. omega (arith, s.least y p.clear);
-        lower = λ x y p v. omega (arith, t.least x y p v);
       }
 
   -- the first mast a makes no clear pair with a smaller sum
-  pub passed : {sum mast a k : ℕ} → Tried clears la lb sum mast a → k ≡ min lb (sum - 1 - a) → ((y : ℕ) → y ≤ k → clears a y ≡ true → ⊥)
-      → Tried clears la lb sum mast (a + 1)
-  passed {sum} {a = a} {k} t e none =
+  pub passed : {sum a k : ℕ} {best : Option Masts} → Tried clears la lb sum best a → k ≡ min lb (sum - 1 - a)
+      → ((y : ℕ) → y ≤ k → clears a y ≡ true → ⊥) → Tried clears la lb sum best (a + 1)
+  passed {sum} {a} {k} t e none =
       record {
         most = t.most;
-        under = t.under;
-        pair = t.pair;
+        held = t.held;
         least = least_with t sum (le_refl sum) λ y p. le_of_suc-le-suc (lt_of_not-le λ (h : a + y < sum). none y (omega (arith, p.second)) p.clear);
-        lower = t.lower;
       }
 
   -- every first mast within the limit is tried, or would by itself come to the sum
-  least_of_all : {sum mast a : ℕ} → Tried clears la lb sum mast a → (a ≤ la → sum ≤ a) → (x y : ℕ) → Pair clears la lb x y → sum ≤ x + y
-  least_of_all {sum} {a = a} t out x y p = go (dec_lt x a)
+  least_of_all : {sum a : ℕ} {best : Option Masts} → Tried clears la lb sum best a → (a ≤ la → sum ≤ a) → (x y : ℕ) → Pair clears la lb x y → sum ≤ x + y
+  least_of_all {sum} {a} t out x y p = go (dec_lt x a)
     where
       go : Dec (x < a) → sum ≤ x + y
       go (yes l) = t.least x y p l
       go (no h) = omega (arith, out (omega (arith, p.first)))
 
-  -- the pair that was found is the best
-  pub best : {sum mast a : ℕ} → Tried clears la lb sum mast a → (a ≤ la → sum ≤ a) → sum ≤ la + lb
-      → Best clears la lb (record { first = mast; second = sum - mast })
-  best {sum} {mast} t out h =
+  -- what is held at the end is what demand 3 allows: the best pair, or that there is none
+  pub planned : {sum a : ℕ} {best : Option Masts} → Tried clears la lb sum best a → (a ≤ la → sum ≤ a) → Demand3 clears la lb (planned_means best)
+  planned {best = None} t out = ((refl, refl), λ x y p. omega (arith, p.first, p.second, t.held, least_of_all t out x y p))
+  planned {best = Some m} t out =
       record {
-        pair = t.pair h;
-        least = λ x y p. omega (arith, t.under, least_of_all t out x y p);
-        lower = λ x y p e. lower_than x y p e (dec_lt x mast);
+        pair = t.held.0.1;
+        least = λ x y p. omega (arith, t.held.0.0, least_of_all t out x y p);
+        lower = λ x y p e. lower_than x y p e (dec_lt x m.first);
       }
     where
-      lower_than : (x y : ℕ) → Pair clears la lb x y → x + y ≡ mast + (sum - mast) → Dec (x < mast) → mast ≤ x
-      lower_than x y p e (yes l) = absurd (omega (arith, t.under, t.lower x y p l))
+      lower_than : (x y : ℕ) → Pair clears la lb x y → x + y ≡ m.first + m.second → Dec (x < m.first) → m.first ≤ x
+      lower_than x y p e (yes l) = absurd (omega (arith, t.held.0.0, t.held.1 x y p l))
       lower_than x y p e (no l) = omega arith
-
-  -- none was found, and there is none
-  pub no_pair : {sum mast a : ℕ} → Tried clears la lb sum mast a → (a ≤ la → sum ≤ a) → la + lb < sum → NoPair clears la lb
-  no_pair t out h x y p = omega (arith, p.first, p.second, least_of_all t out x y p)

@@ -4,6 +4,7 @@ use mathlib.Core.Logic.{◌↔◌}
 use Prim.Native.Nat.{ℕ, ◌+◌, ◌-◌, ◌*◌, ◌≤◌}
 use native.Mathlib.Nat.{div-lt_iff_lt-mul, mul_comm, mul-add, mul-one}
 use native.Mathlib.Omega.{arith}
+use Rattle.std.specs.Int.{div_ceil}
 use Rattle.masts.specs.Clear.{rounded_up}
 
 -- the quotient of m by d rounded up is at most k exactly if m is at most d k
@@ -14,3 +15,7 @@ rounded_up_lem m d k h =
       (λ l. omega (arith, product, q.0 (omega arith))),
       λ l. omega (arith, q.1 (omega (arith, product))),
     )
+
+-- the library's quotient rounded up is that quotient
+pub ceil_is : (m d : ℕ) → 1 ≤ d → div_ceil m d ≡ rounded_up m d
+ceil_is m d h = grind arith

@@ -2,8 +2,8 @@
 -- Assumes nothing.
 use mathlib.Core.Path.{◌≡◌}
 use mathlib.Core.Logic.{◌⊎◌, inl, inr}
-use Prim.Native.Nat.{ℕ, zero, suc, ◌+◌, ◌*◌, ◌≤◌, ◌<◌}
-use native.Mathlib.Nat.{mul-le-mul, lt_of_le_of_lt, lt_of_not-le, le_of_suc-le-suc, le_antisymm, le_trans}
+use Prim.Native.Nat.{ℕ, zero, suc, ◌+◌, ◌-◌, ◌*◌, ◌/◌, ◌≤◌, ◌<◌}
+use native.Mathlib.Nat.{mul-le-mul, lt_of_not-le, le_of_suc-le-suc, le_antisymm, le_trans}
 use native.Mathlib.Decide.{dec_lt}
 use native.Mathlib.Omega.{arith}
 use lib.Dec.{leb}
@@ -65,30 +65,11 @@ N_only {q} {n} l =
 pub N_most : (q : ℕ) → q ≤ farthest → N q ≤ 200
 N_most q h = (N_is q).least 200 (omega arith) (omega arith)
 
--- the halving that finds N: `short` steps and fewer are too few, and `enough` reach
-pub record Halved (q short enough : ℕ) : Type 0 where
-  pub order : short < enough
-  pub most : enough ≤ 200
-  pub reach : q ≤ far enough
-  pub fails : (m : ℕ) → 1 ≤ m → m ≤ short → far m < q
-
--- the halving begins with 0 and 200
-pub halved : (q : ℕ) → q ≤ farthest → Halved q 0 200
-halved q h = record { order = omega arith; most = omega arith; reach = omega arith; fails = λ m s l. absurd (omega arith) }
-
--- half the steps are too few
-pub halved_short : {q short enough half : ℕ} → Halved q short enough → half < enough → far half < q → Halved q half enough
-halved_short t h f = record { order = h; most = t.most; reach = t.reach; fails = λ m s l. lt_of_le_of_lt (far_rises l) f }
-
--- half the steps reach
-pub halved_enough : {q short enough half : ℕ} → Halved q short enough → short < half → half ≤ 200 → q ≤ far half → Halved q short half
-halved_enough t h m r = record { order = h; most = m; reach = r; fails = t.fails }
-
--- the halving ends with N
-pub halved_found : {q short enough : ℕ} → Halved q short enough → enough ≤ short + 1 → enough ≡ N q
-halved_found {q} {short} {enough} t e =
+-- one more than the root of (q-1) / 500², rounded down, is N
+pub root_found : (q r : ℕ) → r * r ≤ (q - 1) / 250000 → (q - 1) / 250000 < (r + 1) * (r + 1) → r + 1 ≡ N q
+root_found q r low high =
     N_only (record {
-      some = omega (arith, t.order);
-      reach = t.reach;
-      least = λ m s r. le_of_suc-le-suc (lt_of_not-le λ (g : m < enough). omega (arith, r, t.fails m s (omega arith)));
+      some = omega arith;
+      reach = omega (arith, high);
+      least = λ m s h. le_of_suc-le-suc (lt_of_not-le λ (u : m < r + 1). omega (arith, low, mul-le-mul s s, mul-le-mul {n₁ = m} {m₁ = m} {n₂ = r} {m₂ = r} (omega arith) (omega arith)));
     })

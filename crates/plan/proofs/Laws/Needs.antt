@@ -55,18 +55,20 @@ module _ (l : Link) (list : List ℕ) (needs : Needed (need l) l.path.n list) wh
         needs = λ i m u. rw (needs.at i m u) (omega (arith, need_most l i s (omega arith)));
       }
 
-  -- where A and B are the ends without masts, it says of each pair of masts what the clear test does
-  module _ {A B : ℕ} (first : A ≡ raised (sample_of l.profile 0) 0) (last : B ≡ raised (sample_of l.profile l.path.n) 0) where
-    same_at : (a b : ℕ) → clear_by (λ i. get_or list i 0) l.path.n (A + 1000 * a) (B + 1000 * b) ≡ clear l a b
-    unfolding clear
-    same_at a b =
-        rw (first, last, raised_by (sample_of l.profile 0) a, raised_by (sample_of l.profile l.path.n) b)
-        (needs_agree (λ i. get_or list i 0) (need l) l.path.n _ _ needs.at)
+  -- with the ends without masts it says of each pair of masts what the clear test does
+  same_at : (a b : ℕ) → clear_by (λ i. get_or list i 0) l.path.n (raised (sample_of l.profile 0) 0 + 1000 * a) (raised (sample_of l.profile l.path.n) 0 + 1000 * b) ≡ clear l a b
+  unfolding clear
+  same_at a b =
+      rw (raised_by (sample_of l.profile 0) a, raised_by (sample_of l.profile l.path.n) b)
+      (needs_agree (λ i. get_or list i 0) (need l) l.path.n _ _ needs.at)
 
-    same_test : ◌≡◌ {A = ℕ → ℕ → Bool} (λ a b. clear_by (λ i. get_or list i 0) l.path.n (A + 1000 * a) (B + 1000 * b)) (clear l)
-    same_test k a b = same_at a b k
+  same_test : ◌≡◌ {A = ℕ → ℕ → Bool}
+      (λ a b. clear_by (λ i. get_or list i 0) l.path.n (raised (sample_of l.profile 0) 0 + 1000 * a) (raised (sample_of l.profile l.path.n) 0 + 1000 * b))
+      (clear l)
+  same_test k a b = same_at a b k
 
-    -- what demand 3 allows of the search it allows of the clear test
-    pub demand_of_search : (la lb : ℕ) (o : Outcome Masts)
-        → Demand3 (λ a b. clear_by (λ i. get_or list i 0) l.path.n (A + 1000 * a) (B + 1000 * b)) la lb o → Demand3 (clear l) la lb o
-    demand_of_search la lb o = subst (λ (clears : ℕ → ℕ → Bool). Demand3 clears la lb o) same_test
+  -- what demand 3 allows of the search it allows of the clear test
+  pub demand_of_search : (la lb : ℕ) (o : Outcome Masts)
+      → Demand3 (λ a b. clear_by (λ i. get_or list i 0) l.path.n (raised (sample_of l.profile 0) 0 + 1000 * a) (raised (sample_of l.profile l.path.n) 0 + 1000 * b)) la lb o
+      → Demand3 (clear l) la lb o
+  demand_of_search la lb o = subst (λ (clears : ℕ → ℕ → Bool). Demand3 clears la lb o) same_test

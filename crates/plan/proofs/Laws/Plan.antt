@@ -9,7 +9,8 @@ use Rattle.profile.specs.Profile.{Link, linked}
 use Rattle.masts.specs.Plan.{plan_of}
 use Rattle.masts.proofs.Laws.Plan.{demand_once, plan_of_meets}
 use Rattle.link.specs.Clear.{clear}
-use Rattle.plan.specs.Plan.{plan_answer, Plan, plan}
+use Rattle.masts.specs.declared.Masts.{Masts}
+use Rattle.plan.specs.Plan.{plan_answer, Planned, Plan, plan}
 use Rattle.plan.specs.declared.PlanAnswer.{PlanAnswer}
 
 -- what the plan answers for a link, or for the refusal before it, is the executable plan
@@ -17,6 +18,16 @@ answer_is : (o : Outcome Link) (la lb : ℕ) (r : PlanAnswer) → Plan o la lb r
 answer_is (given l) la lb r p =
     p.answers ∙ ap plan_answer (demand_once (clear l) la lb p.outcome (plan_of (clear l) la lb) p.meets (plan_of_meets (clear l) la lb))
 answer_is (refused number place) la lb r e = e
+
+-- the answer of a permitted outcome is a permitted answer
+pub planned_answer : (o : Outcome Link) (la lb : ℕ) (p : Outcome Masts) {r : PlanAnswer} → Planned o la lb p → r ≡ plan_answer p → Plan o la lb r
+planned_answer (given l) la lb p d e = record { outcome = p; meets = d; answers = e }
+planned_answer (refused number place) la lb p d e = e ∙ ap plan_answer d
+
+-- only one outcome is permitted
+pub planned_once : (o : Outcome Link) (la lb : ℕ) (p : Outcome Masts) → Planned o la lb p → p ≡ (o and_then λ l. plan_of (clear l) la lb)
+planned_once (given l) la lb p d = demand_once (clear l) la lb p (plan_of (clear l) la lb) d (plan_of_meets (clear l) la lb)
+planned_once (refused number place) la lb p d = d
 
 module _ (file : List ℕ) (base zone : ℕ) (p q : Point) (la lb : ℕ) where
   -- what the plan answers for a path of a file is the executable plan

@@ -1,6 +1,6 @@
 -- A link that a call was given: the file passed its check, the path was found on its ground, every sample was read and is in its place, and so no number
 -- of it is too large. From the laws of the path, of the profile and of the reading. Assumes nothing.
-use mathlib.Core.Path.{◌≡◌, refl, ◌∙◌, ap}
+use mathlib.Core.Path.{◌≡◌, refl, sym, ◌∙◌, ap}
 use mathlib.Core.Logic.{◌↔◌}
 use mathlib.Core.Bool.{true, false, ◌||◌}
 use mathlib.Core.List.{List}
@@ -13,7 +13,7 @@ use Rattle.ground.specs.Outcome.{Outcome, given, refused, ◌and_then◌}
 use Rattle.ground.specs.Ground.{ground_of, holds}
 use Rattle.ground.specs.declared.point.Point.{Point}
 use Rattle.ground.proofs.Laws.Test.{neither}
-use Rattle.ground.proofs.Laws.Outcome.{step, told}
+use Rattle.ground.proofs.Laws.Outcome.{step}
 use Rattle.terrain.specs.Check.{checked, Gave}
 use Rattle.reading.specs.Reading.{point_in, reading}
 use Rattle.terrain.specs.declared.check.Terrain.{Terrain}
@@ -25,10 +25,9 @@ use Rattle.path.specs.Path.{Q, N, path_of, sample, farthest, over_asked, path_on
 use Rattle.path.specs.declared.Path.{Path}
 use Rattle.path.specs.declared.Asked.{Asked}
 use Rattle.path.proofs.Laws.Path.{IsPath, path_is, path_sound}
-use Rattle.profile.specs.Profile.{Profile, sample_of, profile_by, Link, link_of, link_in, linked, profile, sampled_means}
+use Rattle.profile.specs.Profile.{Profile, sample_of, profile_by, Link, link_of, link_in, linked, profile}
 use Rattle.profile.specs.Inside.{SoundLink}
-use Rattle.profile.specs.declared.samples.Sampled.{Sampled}
-use Rattle.profile.specs.declared.samples.Sampled.TheVariants.{Whole}
+use Rattle.profile.specs.declared.samples.Samples.{Samples}
 use Rattle.profile.proofs.Laws.Profile.{Filled, filled, all_read}
 
 -- what is asked is not too much
@@ -95,10 +94,10 @@ link_is file b z asks l e =
       sound = record { path = sound; heights = λ i. (within i).0; codes = λ i. (within i).1 };
     })
 
--- a match on what reading the samples came to found the whole path: the link was given
-pub sampled_is : {file : List ℕ} {b z : ℕ} {asks : Asked} {heights codes : List ℕ} {r : Sampled} {w : Path}
-    → sampled_means r heights codes ≡ linked file b z asks → r ≡ Whole w → IsLinked file b z asks (link_of w heights codes)
-sampled_is {heights = heights} {codes} e i = link_is _ _ _ _ _ (told (λ r. sampled_means r heights codes) e i)
+-- the path came with its samples: the link was given
+pub sampled_is : {file : List ℕ} {b z : ℕ} {asks : Asked} {s : Samples} {w : Path}
+    → given (link_of w s) ≡ linked file b z asks → IsLinked file b z asks (link_of w s)
+sampled_is e = link_is _ _ _ _ _ (sym e)
 
 -- What a call asks besides the path, within its bounds, changes nothing: its refusals are those of the profile. So verdict and row are given exactly
 -- where the whole profile is, and a plan is given, or refused with 9, exactly there.

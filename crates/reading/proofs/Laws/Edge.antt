@@ -9,11 +9,9 @@ use native.Mathlib.Nat.{add-mul, mul-pos, mul-le-mul_left}
 use native.Mathlib.Omega.{arith}
 use borrow.Author.Tests.{ne_eqb}
 use lib.ListN.{length}
-use Rattle.ground.specs.Place.{weights_of, word, words_of, Each}
+use Rattle.ground.specs.Place.{Words, Weights, weights_of, word, words_of, Each}
 use Rattle.ground.specs.declared.measure.Metres.{Metres}
 use Rattle.ground.specs.declared.place.Place.{Place}
-use Rattle.ground.specs.declared.place.Words.{Words}
-use Rattle.ground.specs.declared.place.Weights.{Weights}
 use Rattle.index.specs.Bytes.{record_bytes}
 use Rattle.index.proofs.Laws.Bytes.{record_long}
 use Rattle.terrain.specs.Inside.{Measured, Reaches}

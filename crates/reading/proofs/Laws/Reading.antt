@@ -11,10 +11,8 @@ use borrow.Author.Tests.{eqb-true, eq-eqb}
 use Rattle.ground.specs.Outcome.{Outcome, given, ◌and_then◌}
 use Rattle.ground.specs.Boundary.{rows}
 use Rattle.ground.specs.Ground.{ground_of, holds}
-use Rattle.ground.specs.Place.{words_of, place_of, located, AtEach}
+use Rattle.ground.specs.Place.{Words, Weights, words_of, place_of, located, AtEach}
 use Rattle.ground.specs.declared.place.Place.{Place}
-use Rattle.ground.specs.declared.place.Words.{Words}
-use Rattle.ground.specs.declared.place.Weights.{Weights}
 use Rattle.ground.specs.declared.point.Point.{Point}
 use Rattle.ground.proofs.Laws.Outcome.{past, step, assoc}
 use Rattle.ground.proofs.Laws.Test.{either}

@@ -5,11 +5,12 @@ use mathlib.Core.Path.{◌≡◌, refl, sym, ◌∙◌, ap, subst}
 use mathlib.Core.Logic.{◌⊎◌, inl, inr, ⊎_elim}
 use mathlib.Core.Bool.{Bool, true, false, cond, ◌&&◌, and-eq-true_iff}
 use mathlib.Core.List.{List, [], ◌∷◌}
-use Prim.Native.Nat.{ℕ, zero, suc, ◌+◌, ◌-◌, ◌*◌, ◌≤◌, ◌<◌}
-use native.Mathlib.Nat.{le_refl, le_of_eq, eq-or-lt_of_le, mul-le-mul_left, mul-lt-mul_of_pos_left}
+use Prim.Native.Nat.{ℕ, zero, suc, ◌+◌, ◌-◌, ◌*◌, ◌≤◌, ◌<◌, max}
+use Rattle.std.proofs.Math.Nat.{le-max_left, le-max_right, max-eq_left, max-eq_right}
+use native.Mathlib.Nat.{le_of_lt, le_refl, le_of_eq, eq-or-lt_of_le, mul-le-mul_left, mul-lt-mul_of_pos_left}
 use native.Mathlib.Decide.{dec_lt}
 use native.Mathlib.Omega.{arith}
-use lib.Dec.{ltb, eqb, eqb-suc-zero}
+use lib.Dec.{eqb, eqb-suc-zero}
 use borrow.Author.Tests.{lt-ltb, le-ltb, eqb-true, eqb-false, eq-eqb, ne_eqb}
 use Rattle.ground.specs.declared.place.Place.{Place}
 use Rattle.ground.proofs.Laws.Place.{Weighs, weighs}
@@ -18,7 +19,7 @@ use Rattle.terrain.specs.Word.{code_of}
 use Rattle.terrain.specs.Inside.{Measured}
 use Rattle.reading.specs.Corner.{Corner, Corners, corner}
 use Rattle.reading.specs.Vote.{weight_for, sum_for, greatest, Greatest, vote}
-use Rattle.reading.specs.Inside.{first, second, weight_in, sum_in, Decides, joined, rank_of, told_by, larger, weight_of, total_of, Reached, Top, from_to, corners_around, corners_along}
+use Rattle.reading.specs.Inside.{first, second, weight_in, sum_in, Decides, joined, rank_of, told_by, weight_of, total_of, Reached, Top, from_to, corners_around, corners_along}
 use Rattle.reading.specs.declared.edge.Edge.{Edge}
 use Rattle.reading.specs.declared.vote.Sum.{Sum}
 
@@ -101,21 +102,13 @@ as_one s t e code = rw (← e) (go (eqb s.code code))
     go true = refl
     go false = refl
 
--- neither of two numbers is above the greater
-larger_most : (a b : ℕ) → (a ≤ larger a b) × (b ≤ larger a b)
-larger_most a b = go (dec_lt a b)
-  where
-    go : Dec (a < b) → (a ≤ larger a b) × (b ≤ larger a b)
-    go (yes l) = rw (lt-ltb a b l) (omega arith, omega arith)
-    go (no l) = rw (le-ltb a b (omega arith)) (omega arith, omega arith)
-
 -- what holds of two numbers holds of the greater
-larger_either : (P : ℕ → Type 0) (a b : ℕ) → P a → P b → P (larger a b)
-larger_either P a b p q = go (ltb a b)
+max_either : (P : ℕ → Type 0) (a b : ℕ) → P a → P b → P (max a b)
+max_either P a b p q = go (dec_lt a b)
   where
-    go : (t : Bool) → P (cond t b a)
-    go true = q
-    go false = p
+    go : Dec (a < b) → P (max a b)
+    go (yes l) = rw (max-eq_right (le_of_lt l)) q
+    go (no l) = let m : b ≤ a = omega arith in rw (max-eq_left m) p
 
 -- sums that weigh the same for every code have the same highest rank
 pub top_by : {l o : List Sum} {m : ℕ} → ((code : ℕ) → sum_in l code ≡ sum_in o code) → Top l m → Top o m
@@ -132,21 +125,21 @@ pub top_joined : (s t : Sum) (l o : List Sum) {m : ℕ} → s.code ≡ t.code �
 top_joined s t l o e with = top_by (λ code. omega (arith, as_one s t e code, with code))
 
 -- a sum whose code no other has is ranked by itself: the highest rank is its own, or that of the others
-pub top_more : (s : Sum) (l : List Sum) (m : ℕ) → s.code ≤ 7 → sum_in l s.code ≡ 0 → Top l m → Top (s ∷ l) (larger (rank_of s) m)
+pub top_more : (s : Sum) (l : List Sum) (m : ℕ) → s.code ≤ 7 → sum_in l s.code ≡ 0 → Top l m → Top (s ∷ l) (max (rank_of s) m)
 top_more s l m within alone t =
     let r = t.reached in
     record {
       reached =
-          larger_either (Reached (s ∷ l)) (rank_of s) m
+          max_either (Reached (s ∷ l)) (rank_of s) m
           (record { best = s; within = within; is = refl; most = omega (arith, own s) })
           (record { best = r.best; within = r.within; is = r.is; most = omega (arith, r.most) });
       highest = λ code h. go code (eqb s.code code) refl h;
     }
   where
     go : (code : ℕ) (b : Bool) → eqb s.code code ≡ b → 0 < cond b s.weight 0 + sum_in l code
-        → rank_of (record { code = code; weight = cond b s.weight 0 + sum_in l code }) ≤ larger (rank_of s) m
-    go code true e h = rw (← eqb-true s.code code e) (omega (arith, alone, (larger_most (rank_of s) m).0))
-    go code false e h = omega (arith, t.highest code (omega arith), (larger_most (rank_of s) m).1)
+        → rank_of (record { code = code; weight = cond b s.weight 0 + sum_in l code }) ≤ max (rank_of s) m
+    go code true e h = rw (← eqb-true s.code code e) (omega (arith, alone, le-max_left (rank_of s) m))
+    go code false e h = omega (arith, t.highest code (omega arith), le-max_right (rank_of s) m)
 
 -- the highest rank of no sums is that of nothing, for any code
 top_none : (code : ℕ) → code ≤ 7 → Top [] (rank_of (record { code = code; weight = 0 }))
@@ -158,13 +151,15 @@ top_none code within =
 
 -- the highest rank of one sum is its own
 top_one : (s : Sum) → s.code ≤ 7 → Top (s ∷ []) (rank_of s)
-top_one s within = rw (le-ltb (rank_of s) (rank_of (record { code = s.code; weight = 0 })) (omega arith)) at (top_more s [] _ within refl (top_none s.code within))
+top_one s within =
+    let least : rank_of (record { code = s.code; weight = 0 }) ≤ rank_of s = omega arith in
+    rw (max-eq_left least) at (top_more s [] _ within refl (top_none s.code within))
 
 -- the highest rank of two sums, of one code and of two
 pub top_two_same : (a b : Sum) → a.code ≤ 7 → a.code ≡ b.code → Top (a ∷ b ∷ []) (rank_of (joined a b))
 top_two_same a b p e = top_joined a b [] (b ∷ []) e (λ k. refl) (top_one (joined a b) p)
 
-pub top_two : (a b : Sum) → a.code ≤ 7 → b.code ≤ 7 → (a.code ≡ b.code → ⊥) → Top (a ∷ b ∷ []) (larger (rank_of a) (rank_of b))
+pub top_two : (a b : Sum) → a.code ≤ 7 → b.code ≤ 7 → (a.code ≡ b.code → ⊥) → Top (a ∷ b ∷ []) (max (rank_of a) (rank_of b))
 top_two a b p q n = top_more a (b ∷ []) (rank_of b) p (omega (arith, other b a.code (λ e. n (sym e)))) (top_one b q)
 
 -- sums that weigh something weigh something for a code
@@ -202,7 +197,7 @@ module _ (a b : Sum) (some : 0 < a.weight + b.weight) (p : a.code ≤ 7) (q : b.
     where
       go : (t : Bool) → eqb a.code b.code ≡ t → Decides (a ∷ b ∷ []) a.code
       go true e = told (joined a b) p (top_two_same a b p (eqb-true _ _ e))
-      go false e = told a p (rw (le-ltb (rank_of a) (rank_of b) h) at (top_two a b p q (eqb-false _ _ e)))
+      go false e = told a p (rw (max-eq_left h) at (top_two a b p q (eqb-false _ _ e)))
 
   -- and the second where the first has none
   pub second_decides : rank_of a ≤ rank_of b → Decides (a ∷ b ∷ []) b.code
@@ -212,10 +207,7 @@ module _ (a b : Sum) (some : 0 < a.weight + b.weight) (p : a.code ≤ 7) (q : b.
       go true e =
           let same = eqb-true a.code b.code e in
           subst (λ (x : ℕ). Decides (a ∷ b ∷ []) x) same (told (joined a b) p (top_two_same a b p same))
-      go false e =
-          let n = eqb-false a.code b.code e in
-          let higher : rank_of a < rank_of b = omega (arith, n) in
-          told b q (rw (lt-ltb (rank_of a) (rank_of b) higher) at (top_two a b p q n))
+      go false e = told b q (rw (max-eq_right h) at (top_two a b p q (eqb-false a.code b.code e)))
 
 -- The vote is what sums decide for that weigh for every code a part of what the corners weigh for it, the same for each.
 vote_by : (c : Corners) (l : List Sum) (n : ℕ) {code : ℕ} → 0 < n → ((k : ℕ) → n * sum_in l k ≡ sum_for c k) → Decides l code → code ≡ vote c

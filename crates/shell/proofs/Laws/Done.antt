@@ -10,7 +10,9 @@ use Rattle.lines.specs.Text.{line_at}
 use Rattle.shell.specs.Answer.{said}
 use Rattle.shell.specs.Session.{State, Folder, answered, answers}
 use Rattle.shell.specs.Pieces.{ended_from, left_from, after}
-use Rattle.shell.specs.Inside.{Lists, Holds, Written, Feeds}
+use Rattle.shell.specs.Inside.{Holds, Adds, Feeds}
+use Rattle.shell.specs.declared.answer.Answers.{Answers}
+use Rattle.shell.specs.declared.command.FileName.{FileName}
 use Rattle.shell.specs.declared.command.Shell.{Shell}
 use Rattle.shell.specs.declared.feed.Next.TheVariants as next
 use Rattle.shell.proofs.Laws.Written.{nothing, both}
@@ -22,25 +24,25 @@ one_answer : (folder : Folder) (s : State) (line : List ℕ) → answers folder 
 unfolding answers
 one_answer folder s line = append-nil (said (answered folder s (reading line)).answer)
 
--- Of an input and a place in it, what the shell remembered there, the file in use, the lists of sites, and what was written by then:
-module _ (input : List ℕ) (from : ℕ) (shell : Shell) (file : List ℕ) (l : Lists) (out : List ℕ) (filled : ℕ) where
+-- Of an input and a place in it, what the shell remembered there, the file in use, and the answers that waited by then:
+module _ (input : List ℕ) (from : ℕ) (shell : Shell) (file : List ℕ) (waiting : Answers) where
   -- the lines before this place are answered
-  pub record Done (l' : Lists) (now_out : List ℕ) (at full : ℕ) (now : Shell) : Type 0 where
+  pub record Done (waiting' : Answers) (at : ℕ) (now : Shell) : Type 0 where
     pub lines : List (List ℕ)
     pub ended : ended_from [] (drop from input) ≡ lines ++ ended_from [] (drop at input)
     pub left : left_from [] (drop from input) ≡ left_from [] (drop at input)
-    pub answered : (folder : Folder) (s : State) → Holds shell l file s
-        → Written (answers folder s lines) out filled now_out full × Holds now l' file (after folder s lines)
-    pub long : length now_out ≡ length out
-    pub room : filled ≤ 65536 → full ≤ 65536
+    pub answered : (folder : Folder) (s : State) → Holds shell file s
+        → Adds (answers folder s lines) waiting waiting' × Holds now file (after folder s lines)
+    pub long : length waiting'.bytes ≡ length waiting.bytes
+    pub room : waiting.filled ≤ 65536 → waiting'.filled ≤ 65536
 
   -- no line yet
-  pub none_done : Done l out from filled shell
+  pub none_done : Done waiting from shell
   unfolding answers after
   none_done =
-      record { lines = []; ended = refl; left = refl; answered = λ folder s h. (nothing out filled, h); long = refl; room = λ h. h }
+      record { lines = []; ended = refl; left = refl; answered = λ folder s h. (nothing waiting.bytes waiting.filled, h); long = refl; room = λ h. h }
 
-  module _ {l' : Lists} {now_out : List ℕ} {at full : ℕ} {now : Shell} (d : Done l' now_out at full now) where
+  module _ {waiting' : Answers} {at : ℕ} {now : Shell} (d : Done waiting' at now) where
     -- the line at the place, where a line feed ends it
     abbrev Ended : Type 0
     Ended = at + length (line_at input at) < length input
@@ -49,13 +51,13 @@ module _ (input : List ℕ) (from : ℕ) (shell : Shell) (file : List ℕ) (l : 
     past = at + length (line_at input at) + 1
 
     -- one line more
-    pub one_done : {l'' : Lists} {then_out : List ℕ} {fuller : ℕ} {then : Shell} → Ended
-        → ((folder : Folder) (s : State) → Holds now l' file s → (
+    pub one_done : {waiting'' : Answers} {then : Shell} → Ended
+        → ((folder : Folder) (s : State) → Holds now file s → (
         let r = answered folder s (reading (line_at input at)) in
-        Written (said r.answer) now_out full then_out fuller × Holds then l'' file r.state
+        Adds (said r.answer) waiting' waiting'' × Holds then file r.state
         ))
-        → length then_out ≡ length now_out → fuller ≤ 65536 → Done l'' then_out past fuller then
-    one_done {l''} {then_out} {fuller} {then} h step long room =
+        → length waiting''.bytes ≡ length waiting'.bytes → waiting''.filled ≤ 65536 → Done waiting'' past then
+    one_done {waiting''} {then} h step long room =
         let line = line_at input at in
         let e = line_ended input at h in
         record {
@@ -67,9 +69,9 @@ module _ (input : List ℕ) (from : ℕ) (shell : Shell) (file : List ℕ) (l : 
           room = λ _. room;
         }
       where
-        more : (folder : Folder) (s : State) → Holds shell l file s → (
+        more : (folder : Folder) (s : State) → Holds shell file s → (
             let lines = d.lines ++ (line_at input at ∷ []) in
-            Written (answers folder s lines) out filled then_out fuller × Holds then l'' file (after folder s lines)
+            Adds (answers folder s lines) waiting waiting'' × Holds then file (after folder s lines)
             )
         more folder s holds =
             let line = line_at input at in
@@ -81,7 +83,7 @@ module _ (input : List ℕ) (from : ℕ) (shell : Shell) (file : List ℕ) (l : 
 
     -- no line feed ends the line at the place
     pub more_stops : length input ≤ at + length (line_at input at)
-        → Feeds input from shell file l l' out filled now_out (record { next = next.More; at = at; filled = full; shell = now })
+        → Feeds input from shell file waiting now waiting' (record { next = next.More; at = at })
     more_stops h =
         record {
           lines = d.lines;
@@ -95,9 +97,9 @@ module _ (input : List ℕ) (from : ℕ) (shell : Shell) (file : List ℕ) (l : 
         }
 
     -- the line at the place is a `use`
-    pub use_stops : (base zone : ℕ) → Ended → full ≤ 65519 → reading (line_at input at) ≡ legal («use» base zone)
-        → Feeds input from shell file l l' out filled now_out (record { next = next.Use base zone; at = past; filled = full; shell = now })
-    use_stops base zone h room e =
+    pub use_stops : (name : FileName) → Ended → waiting'.filled ≤ 65519 → reading (line_at input at) ≡ legal («use» name.base name.zone)
+        → Feeds input from shell file waiting now waiting' (record { next = next.Use name; at = past })
+    use_stops name h room e =
         let i = line_ended input at h in
         record {
           lines = d.lines;
@@ -111,7 +113,7 @@ module _ (input : List ℕ) (from : ℕ) (shell : Shell) (file : List ℕ) (l : 
         }
 
     -- there is no room for another answer
-    pub full_stops : 65519 < full → Feeds input from shell file l l' out filled now_out (record { next = next.Full; at = at; filled = full; shell = now })
+    pub full_stops : 65519 < waiting'.filled → Feeds input from shell file waiting now waiting' (record { next = next.Full; at = at })
     full_stops h =
         record {
           lines = d.lines;

@@ -9,7 +9,9 @@ use Rattle.lines.specs.Line.{reading}
 use Rattle.shell.specs.Answer.{said}
 use Rattle.shell.specs.Session.{State, Folder, on_use, answered, answers}
 use Rattle.shell.specs.Pieces.{most_kept, ended_from, left_from, after}
-use Rattle.shell.specs.Inside.{Lists, Holds, Written, Feeds, Keeps}
+use Rattle.shell.specs.Inside.{Holds, Adds, Feeds, Keeps}
+use Rattle.shell.specs.declared.answer.Answers.{Answers}
+use Rattle.shell.specs.declared.command.FileName.{FileName}
 use Rattle.shell.specs.declared.command.Shell.{Shell}
 use Rattle.shell.specs.declared.feed.Step.{Step}
 use Rattle.shell.specs.declared.feed.Next.TheVariants as next
@@ -23,8 +25,8 @@ after_split folder s [] m = refl
 after_split folder s (line ∷ l) m = after_split folder (answered folder s (reading line)).state l m
 
 -- Of what `answer_lines` did with the lines that are ended in an input from a place on, whatever the folder holds and in whatever state:
-module _ {input : List ℕ} {from : ℕ} {shell : Shell} {file : List ℕ} {l l' : Lists} {out : List ℕ} {filled : ℕ} {exit : List ℕ} {r : Step}
-    (f : Feeds input from shell file l l' out filled exit r) (folder : Folder) (s : State) where
+module _ {input : List ℕ} {from : ℕ} {shell shell' : Shell} {file : List ℕ} {waiting waiting' : Answers} {r : Step}
+    (f : Feeds input from shell file waiting shell' waiting' r) (folder : Folder) (s : State) where
   -- the lines that are ended, and those of them that are left
   abbrev ended : List (List ℕ)
   ended = ended_from [] (drop from input)
@@ -44,8 +46,8 @@ module _ {input : List ℕ} {from : ℕ} {shell : Shell} {file : List ℕ} {l l'
   more_fed e = (rw (all_fed e), rw (all_fed e))
 
   -- their answers were written, and what the shell remembers after them is held.
-  pub more_written : r.next ≡ next.More → Holds shell l file s
-      → Written (answers folder s ended) out filled exit r.filled × Holds r.shell l' file (after folder s ended)
+  pub more_written : r.next ≡ next.More → Holds shell file s
+      → Adds (answers folder s ended) waiting waiting' × Holds shell' file (after folder s ended)
   more_written e h = rw (all_fed e) (f.answered folder s h)
 
   -- and what `keep` then keeps of the bytes from its place on is what is left of the last line, at most 48 bytes of it.
@@ -57,8 +59,8 @@ module _ {input : List ℕ} {from : ℕ} {shell : Shell} {file : List ℕ} {l l'
       k.bytes ∙ sym (ap (λ l. take most_kept l) (f.left ∙ left_from_lem input r.at none ∙ rest))
 
   -- Where it stops at a `use`, the answers go on with that of the `use` and those to the lines from its place on.
-  pub use_fed : {base zone : ℕ} → r.next ≡ next.Use base zone →
-      let u = on_use now base zone (folder base zone) in
+  pub use_fed : {name : FileName} → r.next ≡ next.Use name →
+      let u = on_use now name.base name.zone (folder name.base name.zone) in
       (answers folder s ended ≡ answers folder s f.lines ++ (said u.answer ++ answers folder u.state left))
       × (after folder s ended ≡ after folder u.state left)
   unfolding answers after

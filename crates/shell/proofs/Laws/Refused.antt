@@ -1,35 +1,22 @@
--- What the shell says of an answer of `sight` and of `plan`. A refusal has a number from 1 to 9, so an answer with number 0 shows what is given, and
--- any other the refusal. From the laws of a point's reading. Assumes nothing.
-use mathlib.Core.Path.{◌≡◌, refl}
-use mathlib.Core.Bool.{Bool, true, false, cond, not}
+-- The numbers of the refusals of a file and of a path: each is from 1 to 9. From the laws of a point's reading. Assumes nothing.
+use mathlib.Core.Bool.{Bool, true, false, not}
 use mathlib.Core.List.{List}
 use Prim.Native.Nat.{ℕ, zero, suc, ◌+◌, ◌≤◌, ◌<◌}
 use native.Mathlib.Omega.{arith}
-use lib.Dec.{ltb, eqb, lit≤, lit<}
+use lib.Dec.{lit≤, lit<}
 use Rattle.ground.specs.Outcome.{Outcome, given, refused, unless, ◌and_then◌}
 use Rattle.ground.specs.Boundary.{rows, named}
 use Rattle.ground.specs.Ground.{holds}
 use Rattle.ground.specs.declared.Ground.{Ground}
-use Rattle.ground.specs.declared.point.Point.{Point}
-use Rattle.ground.proofs.Laws.Outcome.{refused_is}
 use Rattle.index.specs.Bytes.{whole_records}
 use Rattle.index.specs.Index.{index_passes}
 use Rattle.terrain.specs.Check.{checked}
 use Rattle.reading.specs.Reading.{point_in}
 use Rattle.reading.specs.declared.point.Reading.{Reading}
 use Rattle.reading.proofs.Laws.Answer as reading
-use Rattle.path.specs.Path.{ask_masts, sample, too_short_or_long, over_asked, path_of, path_on}
+use Rattle.path.specs.Path.{sample, too_short_or_long, over_asked, path_of, path_on}
 use Rattle.path.specs.declared.Asked.{Asked}
 use Rattle.profile.specs.Profile.{at_sample, up_to, link_in, linked}
-use Rattle.masts.specs.Plan.{least_sum, plan_of}
-use Rattle.masts.specs.declared.Masts.{Masts}
-use Rattle.link.specs.Clear.{clear, Sight, sight, sight_answer}
-use Rattle.link.specs.declared.clear.SightAnswer.{SightAnswer}
-use Rattle.plan.specs.Plan.{plan, plan_answer, Plan}
-use Rattle.plan.proofs.Laws.Plan.{plan_is}
-use Rattle.plan.specs.declared.PlanAnswer.{PlanAnswer}
-use Rattle.shell.specs.Session.{seen, planned}
-use Rattle.shell.specs.declared.answer.Answer.TheVariants as answer
 
 -- an outcome that is, where it is a refusal, one with a number from 1 to 9
 abbrev pub Numbered : {A : Type 0} → Outcome A → Type 0
@@ -85,48 +72,3 @@ module _ (file : List ℕ) (base zone : ℕ) where
       λ w. steps (up_to (λ i. point_in file t (sample w i)) w.n (w.n + 1)) _
       (all_sampled _ w.n (w.n + 1) λ i. reading.point_numbered file t (sample w i))
       λ p. tt
-
--- a truth value from its number
-one_is : (t : Bool) → eqb (cond t 1 0) 1 ≡ t
-one_is true = refl
-one_is false = refl
-
--- an answer of `sight` with number 0 shows what is given
-shows_sight : (o : Outcome Sight) {r : SightAnswer} → Numbered o → r ≡ sight_answer o → r.refusal ≡ 0
-    → answer.Seen r.n (eqb r.clear 1) ≡ seen o
-shows_sight (given s) h is e = rw (is, one_is s.clear)
-shows_sight (refused number place) h is e = let z : number ≡ 0 = rw is at e in absurd (omega arith)
-
--- and so of `plan`
-shows_masts : (o : Outcome Masts) {r : PlanAnswer} → Numbered o → r ≡ plan_answer o → r.refusal ≡ 0
-    → answer.Planned r.first r.second ≡ planned o
-shows_masts (given m) h is e = rw is
-shows_masts (refused number place) h is e = let z : number ≡ 0 = rw is at e in absurd (omega arith)
-
-module _ (file : List ℕ) (base zone : ℕ) (p q : Point) (a b : ℕ) where
-  sight_numbered : Numbered (sight file base zone p q a b)
-  unfolding sight
-  sight_numbered = steps (linked file base zone (ask_masts p q a b)) _ (linked_numbered file base zone (ask_masts p q a b)) λ l. tt
-
-  -- and 9
-  plan_numbered : Numbered (plan file base zone p q a b)
-  unfolding plan_of
-  plan_numbered =
-      steps (linked file base zone (ask_masts p q a b)) _ (linked_numbered file base zone (ask_masts p q a b))
-      λ l. test (ltb (a + b) (least_sum (clear l) a b)) 9 _ (lit< tt, lit≤ tt) tt
-
-  -- what the shell says of an answer of `sight`
-  module _ {r : SightAnswer} (is : r ≡ sight_answer (sight file base zone p q a b)) where
-    pub says_sight : r.refusal ≡ 0 → answer.Seen r.n (eqb r.clear 1) ≡ seen (sight file base zone p q a b)
-    says_sight = shows_sight (sight file base zone p q a b) sight_numbered is
-
-    pub refuses_sight : (r.refusal ≡ 0 → ⊥) → answer.Refused r.refusal ≡ seen (sight file base zone p q a b)
-    refuses_sight e = rw (is, refused_is (sight file base zone p q a b) (rw is at e))
-
-  -- and of one of `plan`
-  module _ (r : PlanAnswer) (is : Plan (linked file base zone (ask_masts p q a b)) a b r) where
-    pub says_masts : r.refusal ≡ 0 → answer.Planned r.first r.second ≡ planned (plan file base zone p q a b)
-    says_masts = shows_masts (plan file base zone p q a b) plan_numbered (plan_is file base zone p q a b r is)
-
-    pub refuses_masts : (r.refusal ≡ 0 → ⊥) → answer.Refused r.refusal ≡ planned (plan file base zone p q a b)
-    refuses_masts e = let it = plan_is file base zone p q a b r is in rw (it, refused_is (plan file base zone p q a b) (rw it at e))

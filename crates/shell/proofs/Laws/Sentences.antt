@@ -1,8 +1,9 @@
 -- Document 02, request e), sentence by sentence, of whatever state: which answer comes first, what a `use` loads, what a path and masts are asked of, and what
 -- each line leaves as it was. And the shell at its start holds the session's start. From the definitions of specs/Session.antt. Assumes nothing.
 use mathlib.Core.Path.{◌≡◌, refl}
-use mathlib.Core.Bool.{false}
 use mathlib.Core.List.{List}
+use Rattle.std.specs.Prelude.{None, replicate}
+use Rattle.shell.specs.declared.sites.Site.{Site as Entry}
 use Prim.Native.Nat.{ℕ, ◌*◌, ◌≤◌, ◌<◌}
 use native.Mathlib.Omega.{arith}
 use lib.ListN.{length}
@@ -12,13 +13,15 @@ use Rattle.ground.specs.declared.point.Point.{Point}
 use Rattle.terrain.specs.Check.{checked}
 use Rattle.path.specs.Path.{ask_masts}
 use Rattle.profile.specs.Profile.{Link, linked}
-use Rattle.link.specs.Clear.{clear, Sight, sight, verdict}
+use Rattle.link.specs.declared.clear.Seen.{Seen}
+use Rattle.link.specs.Clear.{clear, sight, verdict}
 use Rattle.plan.specs.Plan.{plan}
 use Rattle.lines.specs.Spell.{path, masts}
 use Rattle.lines.specs.Line.{legal, bad, reading}
 use Rattle.shell.specs.Session.{Site, State, none, in_use, start, Held, holds, Folder, only, most_bytes, most_sites, refusal_of, bytes_of, on_use}
 use Rattle.shell.specs.Session.{found, missing, site_of, added, on_site, point_of, seen, on_path, planned, on_masts, answered}
-use Rattle.shell.specs.Inside.{Lists, Holds}
+use Rattle.shell.specs.Inside.{Holds, Starts}
+use Rattle.shell.specs.declared.command.Shell.{Shell}
 use Rattle.shell.specs.declared.answer.Answer.TheVariants as answer
 
 -- at most 32 sites, and files of up to 60 records of 1024 bytes
@@ -77,7 +80,7 @@ pub sight_is_verdict : (bytes : List ℕ) (base zone : ℕ) (p q : Point) (a b :
 unfolding sight verdict
 sight_is_verdict bytes base zone p q a b = go (linked bytes base zone (ask_masts p q a b))
   where
-    see : Link → Outcome Sight
+    see : Link → Outcome Seen
     see l = given (record { n = l.path.n; clear = clear l a b })
 
     go : (o : Outcome Link) → (o and_then λ l. given (clear l a b)) ≡ (o and_then see and_then λ w. given w.clear)
@@ -108,17 +111,18 @@ module _ (folder : Folder) (s : State) (line : List ℕ) where
   pub masts_keeps : (f g : List ℕ) (a b : ℕ) → reading line ≡ legal (masts f g a b) → answered folder s (reading line) ≡ only s (on_masts s f g a b)
   masts_keeps f g a b e = rw e
 
--- the shell at its start, with lists of 32 entries, holds the session's start, whatever the lists and the room for a file hold
-pub start_holds : (l : Lists) (bytes : List ℕ) → length l.names ≡ 32 → length l.eastings ≡ 32 → length l.northings ≡ 32
-    → Holds (record { count = 0; used = false; base = 0; zone = 0 }) l bytes start
-start_holds l bytes a b c =
+-- some shell is one at its start, so what holds of such a shell speaks of something
+pub some_starts : (s : Entry) → Starts (record { sites = record { entries = replicate 32 s; count = 0 }; file = None })
+some_starts s = record { count = refl; long = refl; file = refl }
+
+-- the shell at its start holds the session's start, whatever its 32 entries and the room for a file hold
+pub start_holds : (shell : Shell) (bytes : List ℕ) → Starts shell → Holds shell bytes start
+start_holds shell bytes s =
     record {
-      count = refl;
+      count = s.count;
       most = omega arith;
-      long = (a, (b, c));
+      long = s.long;
       named = λ i h. absurd (omega arith);
-      names = λ i h. absurd (omega arith);
-      eastings = λ i h. absurd (omega arith);
-      northings = λ i h. absurd (omega arith);
-      file = refl;
+      entries = λ i h. absurd (omega arith);
+      file = rw s.file;
     }

@@ -1,17 +1,18 @@
 -- What a search among the keys comes to for the names, in a state that is held; and what is held after a site is added. From the law that no
 -- two names have one key. Assumes nothing.
+use Rattle.std.specs.Prelude.{Option, Some, None}
 use mathlib.Core.Path.{◌≡◌, refl, sym, ◌∙◌, ap}
 use mathlib.Core.Bool.{Bool, true, false}
 use mathlib.Core.List.{List, [], ◌∷◌, ◌++◌}
-use Prim.Native.Nat.{ℕ, zero, suc, ◌+◌, ◌≤◌, ◌<◌}
+use Prim.Native.Nat.{ℕ, zero, suc, ◌<◌}
 use native.Mathlib.Omega.{arith}
 use native.Mathlib.Decide.{dec_lt}
-use lib.ListN.{length, get_or, set, length-append, length-set, get_or-append}
+use lib.ListN.{length, length-append, length-set, get_or-append}
 use lib.Seq.{get_or-append_seam, get_or-set_same, get_or-set_other}
 use Rattle.lines.specs.Key.{key}
 use Rattle.lines.proofs.Laws.Key.{key_once}
 use Rattle.shell.specs.Session.{Site, State, found, missing, same_name, site_of}
-use Rattle.shell.specs.Inside.{Lists, lists, Finds, Holds, Named, site_at}
+use Rattle.shell.specs.Inside.{Finds, Holds, Named, site_at, entry_at, entry_of, with_entry}
 use Rattle.shell.specs.declared.command.Shell.{Shell}
 use Rattle.shell.proofs.Laws.Names.{same_name_lem}
 
@@ -41,26 +42,20 @@ module _ (name : List ℕ) where
   none_at [] n = refl
   none_at (s ∷ sites) n = rw (n zero (omega arith)) (none_at sites λ i l. n (suc i) (omega arith))
 
--- r is the place of the site of a name, or 32 where there is none
-pub record Looked (name : List ℕ) (sites : List Site) (r : ℕ) : Type 0 where
-  pub there : r < 32 → (r < length sites) × (site_of name sites ≡ found (site_at sites r))
-  pub nowhere : 32 ≤ r → site_of name sites ≡ missing
+-- r is the place of the site of a name, if there is one
+abbrev pub Looked : (name : List ℕ) (sites : List Site) → Option ℕ → Type 0
+Looked name sites (Some r) = (r < length sites) × (site_of name sites ≡ found (site_at sites r))
+Looked name sites None = site_of name sites ≡ missing
 
 -- a search among the keys of a state's names finds the site of the name
-pub looked : {shell : Shell} {l : Lists} {bytes : List ℕ} {s : State} {name : List ℕ} {k r : ℕ} → Holds shell l bytes s → Named name → k ≡ key name
-    → Finds l.names shell.count k r → Looked name s.sites r
-looked {s = s} {name = name} {r = r} h n e f =
-    record {
-      there = λ below.
-          let within : r < length s.sites = omega (arith, (f.at below).0, h.count) in
-          let its = same _ _ (h.named r within) n (sym (h.names r within) ∙ (f.at below).1 ∙ e) in
-          (within, first_at name s.sites r within (λ i l. not_before i l (omega arith)) its);
-      nowhere = λ over. none_at name s.sites λ i l. not_before i (omega (arith, h.most)) l;
-    }
-  where
-    not_before : (i : ℕ) → i < r → i < length s.sites → same_name (site_at s.sites i).name name ≡ false
-    not_before i b l =
-        other _ _ λ same. f.before i (omega (arith, h.count)) (omega (arith, h.most)) b (h.names i l ∙ same ∙ sym e)
+pub looked : {shell : Shell} {bytes : List ℕ} {s : State} {k : ℕ} (name : List ℕ) (r : Option ℕ) → Holds shell bytes s → Named name → k ≡ key name
+    → Finds shell.sites k r → Looked name s.sites r
+looked {s = s} name (Some r) h n e f =
+    let within : r < length s.sites = omega (arith, f.1.0, h.count) in
+    let its = same _ _ (h.named r within) n (sym (ap (λ x. x.key) (h.entries r within)) ∙ f.1.1.0 ∙ e) in
+    (within, first_at name s.sites r within (λ i b. other _ _ λ same. f.1.1.1 i b (ap (λ x. x.key) (h.entries i (omega arith)) ∙ same ∙ sym e)) its)
+looked {s = s} name None h n e f =
+    none_at name s.sites λ i l. other _ _ λ same. f i (omega (arith, h.count)) (omega (arith, h.most)) (ap (λ x. x.key) (h.entries i l) ∙ same ∙ sym e)
 
 -- what holds of each site at its place, and of a new one after them, holds of each with that one
 kept : (P : ℕ → Site → Type 0) (sites : List Site) (new : Site) → ((i : ℕ) → i < length sites → P i (site_at sites i)) → P (length sites) new
@@ -74,34 +69,22 @@ kept P sites new all one i h = go (dec_lt i (length sites))
         let e : i ≡ length sites = omega (arith, simp length-append at h) in
         rw (e, get_or-append_seam sites new [] _) one
 
--- a list that has something of each site, with that of a new one
-entered : (of : Site → ℕ) (l : List ℕ) (sites : List Site) (new : Site) → length sites < length l
-    → ((i : ℕ) → i < length sites → get_or l i 0 ≡ of (site_at sites i))
-    → (i : ℕ) → i < length (sites ++ (new ∷ [])) → get_or (set l (length sites) (of new)) i 0 ≡ of (site_at (sites ++ (new ∷ [])) i)
-entered of l sites new room all =
-    kept (λ i s. get_or (set l (length sites) (of new)) i 0 ≡ of s) sites new
-    (λ i h. get_or-set_other l (length sites) i (of new) 0 (λ e. omega arith) ∙ all i h)
-    (get_or-set_same l (length sites) (of new) 0 room)
-
 -- what is held after a site is added
-pub holds_added : {shell : Shell} {l : Lists} {bytes : List ℕ} {s : State} (new : Site) → Holds shell l bytes s → Named new.name
-    → shell.count < 32 → (
-    let at = shell.count in
+pub holds_added : {shell : Shell} {bytes : List ℕ} {s : State} (new : Site) → Holds shell bytes s → Named new.name
+    → shell.sites.count < 32 → (
     Holds
-    (record { count = at + 1; used = shell.used; base = shell.base; zone = shell.zone })
-    (lists (set l.names at (key new.name)) (set l.eastings at new.easting) (set l.northings at new.northing))
+    (record { sites = with_entry shell.sites (entry_of new); file = shell.file })
     bytes
     (record { file = s.file; sites = s.sites ++ (new ∷ []) })
     )
-holds_added {shell} {l} {s = s} new h n room =
-    rw h.count
-    (record {
-      count = simp length-append;
+holds_added {shell} {s = s} new h n room =
+    record {
+      count = simp length-append (omega (arith, h.count));
       most = simp length-append (omega (arith, h.count));
-      long = (simp length-set h.long.0, (simp length-set h.long.1.0, simp length-set h.long.1.1));
+      long = simp length-set h.long;
       named = kept (λ i x. Named x.name) s.sites new h.named n;
-      names = entered (λ x. key x.name) l.names s.sites new (omega (arith, h.count, h.long.0)) h.names;
-      eastings = entered (λ x. x.easting) l.eastings s.sites new (omega (arith, h.count, h.long.1.0)) h.eastings;
-      northings = entered (λ x. x.northing) l.northings s.sites new (omega (arith, h.count, h.long.1.1)) h.northings;
+      entries = kept (λ i x. entry_at (with_entry shell.sites (entry_of new)) i ≡ entry_of x) s.sites new
+          (λ i l. get_or-set_other shell.sites.entries shell.sites.count i (entry_of new) _ (λ e. omega (arith, h.count)) ∙ h.entries i l)
+          (rw h.count (get_or-set_same shell.sites.entries (length s.sites) (entry_of new) _ (omega (arith, h.count, h.long))));
       file = h.file;
-    })
+    }

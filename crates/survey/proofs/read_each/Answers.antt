@@ -11,7 +11,7 @@ use Rattle.survey.specs.Survey.{Lists, five_lists, written}
 use Rattle.survey.specs.Inside.{answer_in}
 use Rattle.survey.proofs.Laws.Lists.{ListsFit, fits, one_answer_more}
 use Rattle.survey.proofs.Laws.Survey.{in_bytes}
-use Rattle.survey.proofs.read_each.Goals.{Start, After-read_in-answer}
+use Rattle.survey.proofs.read_each.Goals.{Start, After-from}
 use Rattle.survey.proofs.read_each.Goals as goal
 
 -- the lists as they were lent
@@ -27,8 +27,8 @@ abbrev answer : Start → ℕ → ReadAnswer
 answer c = answer_in c.args.file.now c.args.terrain (lent c)
 
 -- the answer to point i is the one that the contract speaks of
-read : (c : After-read_in-answer) → c.read_in-answer.result ≡ answer (goal.at.After-read_in-answer c).Start c.loop-i.i
-read c = (rw c.point_at-point.ensures at c.read_in-answer.ensures) ∙ ap read_answer (point_is_spot c.requires.0 _)
+read : (c : After-from) → c.from.result ≡ answer (goal.at.After-from c).Start c.loop-i.i
+read c = c.from.ensures ∙ ap read_answer ((rw c.point_at-point.ensures at c.read_in-read.ensures) ∙ point_is_spot c.requires.0 _)
 
 pub loop-i-init : goal.loop-i-init
 unfolding written
@@ -39,17 +39,17 @@ point_at-point-requires c =
     let f = fit (goal.at.point_at-point-requires c).Start in
     (omega arith, omega arith)
 
-pub read_in-answer-requires : goal.read_in-answer-requires
-read_in-answer-requires c = gave_opens c.requires.0
+pub read_in-read-requires : goal.read_in-read-requires
+read_in-read-requires c = gave_opens c.requires.0
 
 pub enter-requires : goal.enter-requires
 enter-requires c =
     let f = fit (goal.at.enter-requires c).Start in
-    ((omega arith, (omega arith, omega arith)), rw (read (goal.at.enter-requires c).After-read_in-answer) (in_bytes _ c.requires.0))
+    ((omega arith, (omega arith, omega arith)), rw (read (goal.at.enter-requires c).After-from) (in_bytes _ c.requires.0))
 
 pub loop-i-preserved : goal.loop-i-preserved
 loop-i-preserved c =
     let e = c.enter.ensures in
     let start = (goal.at.loop-i-preserved c).Start in
-    let more = one_answer_more (answer start) (lent start) _ c.loop-i.invariant.1 (read (goal.at.loop-i-preserved c).After-read_in-answer) in
+    let more = one_answer_more (answer start) (lent start) _ c.loop-i.invariant.1 (read (goal.at.loop-i-preserved c).After-from) in
     (omega arith, rw (e.0, e.1.0, e.1.1) more)

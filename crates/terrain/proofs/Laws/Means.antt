@@ -1,5 +1,5 @@
--- Two answers that mean the same are the same, for each enum that this crate answers with, so its promises leave one answer; and the record that a
--- call hands back is empty exactly where the call is refused. From the laws of the record taken. Assumes nothing.
+-- Two parts of the caller's bytes that a promise allows are the same; and the record that a call
+-- hands back is empty exactly where the call is refused. From the laws of the record taken. Assumes nothing.
 use mathlib.Core.Path.{◌≡◌, refl, sym, ◌∙◌, ap}
 use mathlib.Core.Logic.{◌↔◌}
 use mathlib.Core.List.{List, []}
@@ -12,28 +12,10 @@ use Rattle.ground.specs.declared.point.Point.{Point}
 use Rattle.ground.proofs.Laws.Outcome.{step}
 use Rattle.index.specs.Bytes.{record_bytes, Part}
 use Rattle.index.proofs.Laws.Bytes.{record_long}
-use Rattle.terrain.specs.Check.{checked, checked_means}
-use Rattle.terrain.specs.Record.{record_in, record_for, sought_means, part_bytes}
-use Rattle.terrain.specs.declared.check.Checked.{Checked}
-use Rattle.terrain.specs.declared.check.Checked.TheVariants as checked-cases
+use Rattle.terrain.specs.Check.{checked}
+use Rattle.terrain.specs.Record.{record_in, record_for, part_bytes}
 use Rattle.terrain.specs.declared.record.Taken.{Taken}
-use Rattle.terrain.specs.declared.record.Sought.{Sought}
-use Rattle.terrain.specs.declared.record.Sought.TheVariants as sought-cases
 use Rattle.terrain.proofs.Laws.Taken.{record_is}
-
--- two answers of the check
-pub checked_once : (r s : Checked) → checked_means r ≡ checked_means s → r ≡ s
-checked_once (checked-cases.Passed t) (checked-cases.Passed u) e = cc
-checked_once (checked-cases.Passed t) (checked-cases.Refused k) e = cc
-checked_once (checked-cases.Refused k) (checked-cases.Passed t) e = cc
-checked_once (checked-cases.Refused k) (checked-cases.Refused l) e = cc
-
--- two answers of the search for a record
-pub sought_once : (r s : Sought) → sought_means r ≡ sought_means s → r ≡ s
-sought_once (sought-cases.From t) (sought-cases.From u) e = cc
-sought_once (sought-cases.From t) (sought-cases.Refused k) e = cc
-sought_once (sought-cases.Refused k) (sought-cases.From t) e = cc
-sought_once (sought-cases.Refused k) (sought-cases.Refused l) e = cc
 
 -- two parts of the caller's bytes that a promise allows have the same bytes, at the same place
 pub part_once : {file r s : Bor (List ℕ)} {start : ℕ} {bytes : List ℕ} → Part file r start bytes → Part file s start bytes

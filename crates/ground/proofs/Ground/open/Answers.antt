@@ -20,9 +20,9 @@ are-named c = (sym c.are_named.ensures ∙ c.if-not-are_named.false)
 fourth : (c : Else-not-are_named) → (c.args.base / 4 < 21) × (4 * (c.args.base / 4) ≡ c.args.base)
 fourth c = base_at_lem _ (named_is _ _ (are-named c)).base
 
-pub boundaries-file-requires : goal.boundaries-file-requires
-boundaries-file-requires c = (fourth c).0
+pub boundaries-requires : goal.boundaries-requires
+boundaries-requires c = (fourth c).0
 
 pub returns : goal.returns
 returns c =
-    simp (c.boundaries-file.ensures, (fourth c.before.before.before).1, are-named c.before.before.before)
+    simp (c.boundaries.ensures, (fourth c.before.before.before).1, are-named c.before.before.before)

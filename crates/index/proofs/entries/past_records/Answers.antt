@@ -25,7 +25,7 @@ pub returns-then-not-mark_four : goal.returns-then-not-mark_four
 returns-then-not-mark_four c =
     let w = c.loop-n.invariant.0 in
     let f = four (goal.at.returns-then-not-mark_four c).After-are_records c.if-not-are_records.false in
-    record { goes = λ h. absurd (omega arith); stops = λ e. c.mark_four.ensures.stops w f c.if-not-mark_four.true _ (omega arith) }
+    c.mark_four.ensures.stops w f c.if-not-mark_four.true _ (omega arith)
 
 pub loop-n-preserved : goal.loop-n-preserved
 loop-n-preserved c =
@@ -34,11 +34,7 @@ loop-n-preserved c =
     (c.mark_four.ensures.goes w f c.if-not-mark_four.false, omega arith)
 
 pub returns-after-loop-n : goal.returns-after-loop-n
-returns-after-loop-n c =
-    let inv = c.loop-n.invariant in
-    record { goes = λ h. inv; stops = λ e. absurd (omega (arith, inv.0.first)) }
+returns-after-loop-n c = c.loop-n.invariant
 
 pub returns-then-not-are_records : goal.returns-then-not-are_records
-returns-then-not-are_records c =
-    let inv = c.loop-n.invariant in
-    record { goes = λ h. inv; stops = λ e. absurd (omega (arith, inv.0.first)) }
+returns-then-not-are_records c = c.loop-n.invariant

@@ -1,90 +1,72 @@
--- `read_name` meets its contract. The loop's invariant: what the rest of the characters will come to, after the key so far, is what all after the
--- first come to, and the key has room for them. The measure is how many may follow. Assumes nothing.
-use borrow.Author.Tests.{eq-eqb, ne_eqb}
-use mathlib.Core.Path.{◌≡◌, refl, ◌∙◌, ap}
-use mathlib.Core.Bool.{true, not}
-use mathlib.Core.List.{◌∷◌}
-use Prim.Native.Nat.{◌+◌, ◌<◌}
-use native.Mathlib.Omega.{arith}
+-- `read_name` meets its contract. Assumes nothing.
+use Rattle.std.proofs.Common.{◌≡◌, refl, sym, ◌∙◌, List, ◌∷◌, ℕ, ◌+◌, ◌-◌, ◌*◌, ◌<◌, ◌≤◌, get_or, drop, length, Some, None, Ok, Err, arith}
 use lib.Dec.{lit<}
-use lib.ListN.{length, drop}
 use Rattle.lines.specs.Spell.{capital, in_name}
-use Rattle.lines.specs.Line.{run, name}
-use Rattle.lines.specs.Key.{key_after}
-use Rattle.lines.specs.Inside.{a_word, no_word, word_from}
-use Rattle.lines.proofs.Laws.Byte.{letter_in_name, letter_capital, letter_small}
-use Rattle.lines.proofs.Laws.Place.{Went, among, passes, fails, first_stops, halts}
-use Rattle.lines.proofs.Laws.Loop.{characters, taken, headed, headed_by}
-use Rattle.lines.proofs.Laws.Loop.{Gathered, gathers, room_left, gathers_more, gathered_all, gathered_here}
-use Rattle.lines.proofs.word.read_name.Goals.{At-loop-left, Else-first, Else-next-eq0, Start}
+use Rattle.lines.specs.Line.{name}
+use Rattle.lines.specs.Key.{key_after, letter}
+use Rattle.lines.specs.Inside.{figure, word_from}
+use Rattle.lines.proofs.Laws.Byte.{figure_is, figure_none, figure_capital, not_capital}
+use Rattle.lines.proofs.Laws.Place.{among, passes, fails, first_stops, halts, hands, moved}
+use Rattle.lines.proofs.Laws.Loop.{characters, headed, headed_by, Gathers, Gathered, room_left, gathers_more, gathered_all, gathered_here}
+use Rattle.lines.proofs.word.read_name.Goals.{In-Some-figure}
 use Rattle.lines.proofs.word.read_name.Goals as goal
 
-pub returns-then-first : goal.returns-then-first
-unfolding name
-returns-then-first c =
-    let a = c.args in
-    let no = letter_capital _ ∙ ap not (rw c.letter-first.ensures at c.if-first.true) in
-    halts a_word no_word (first_stops _ (fails capital a.s.now a.from c.byte_at.ensures refl no))
-
--- Past the refusal:
-module _ (c : Else-first) where
-  abbrev start : Start
-  start = (goal.at.Else-first c).Start
-
-  -- the first character is a capital
-  is-capital : capital c.byte_at.result ≡ true
-  is-capital = letter_capital _ ∙ ap not (rw c.letter-first.ensures at c.if-first.false)
-
-  -- it stands among the bytes
-  first-among : start.args.from < length start.args.s.now
-  first-among = among capital start.args.s.now start.args.from c.byte_at.ensures refl is-capital
-
-  -- it and those after it are a name
-  is_name : (
-      let a = start.args in
-      let b = c.byte_at.result in
-      Went name a.s.now (b ∷ taken in_name a.s.now (a.from + 1) 11) a.from (a.from + 1 + run in_name 11 (drop (a.from + 1) a.s.now))
-      )
+module _ (s : List ℕ) (from b : ℕ) (is : b ≡ get_or s from 10) where
+  -- no name begins with a byte that is no capital
+  none : ((d : ℕ) → Some d ≡ figure b → 26 < d) → Err from ≡ word_from from (name (drop from s))
   unfolding name
-  is_name = headed capital in_name (λ b. 11) ◌∷◌ (passes capital _ _ c.byte_at.ensures refl is-capital)
+  none n = halts _ (first_stops _ (fails capital s from is refl (not_capital b n)))
 
-pub overflow_add-at : goal.overflow_add-at
-overflow_add-at c = omega (arith, first-among c)
+  -- a capital stands among the bytes
+  inside : {d : ℕ} → Some d ≡ figure b → d ≤ 26 → from < length s
+  inside f h = among capital s from is refl (figure_capital b f h)
 
-pub loop-left-init : goal.loop-left-init
-loop-left-init c = gathers characters _ 12 _ _ 11 (rw c.letter-first.ensures (letter_small _)) (lit< tt)
+  -- a capital and what the loop comes to are one
+  whole : {d key at : ℕ} → Some d ≡ figure b → d ≤ 26 → Gathered in_name key_after s d (from + 1) 11 key at
+      → Ok (record { value = key; at = at }) ≡ word_from from (name (drop from s))
+  unfolding name
+  whole {d} f h g =
+      let q : d ≡ letter b = (figure_is b f).1 in
+      rw (g.value, q, ← headed_by characters b)
+      (hands _ (moved (sym g.place) (headed capital in_name (λ b. 11) ◌∷◌ (passes capital s from is refl (figure_capital b f h)))))
+
+pub returns-in_default : goal.returns-in_default
+returns-in_default c = none _ _ _ c.byte_at.ensures λ d e.
+    let never : None ≡ Some d = c.in_default.ensures ∙ sym e in
+    absurd cc
+
+pub returns-then-first-gt-LAST_CAPITAL : goal.returns-then-first-gt-LAST_CAPITAL
+returns-then-first-gt-LAST_CAPITAL c = none _ _ _ c.byte_at.ensures λ d e.
+    let same : Some d ≡ Some c.in-Some.first = e ∙ sym c.in-Some.ensures in
+    let is : d ≡ c.in-Some.first = cc in
+    rw is c.if-first-gt-LAST_CAPITAL.true
 
 -- one more character
-one_more : (c : Else-next-eq0) → in_name c.byte_at-in-loop-left.result ≡ true
-one_more c = letter_in_name _ ∙ ap not (rw c.letter-next.ensures at (ne_eqb _ 0 c.if-next-eq0.false))
+more : (c : In-Some-figure) → (
+    let end = c.args.from + 1 + 11 in
+    Gathers in_name 38 key_after c.args.s.now 12 c.in-Some.first (c.args.from + 1) 11 (38 * c.loop-at.key + c.in-Some-figure.next) (c.loop-at.at + 1)
+    (end - (c.loop-at.at + 1))
+    )
+more c =
+    let f = figure_is c.byte_at-in-loop-at.result c.in-Some-figure.ensures in
+    rw f.1 (gathers_more characters c.loop-at.invariant (omega arith) c.byte_at-in-loop-at.ensures f.0)
 
-pub loop-left-preserved : goal.loop-left-preserved
-loop-left-preserved c =
-    rw c.letter-next.ensures
-    (gathers_more characters c.loop-left.invariant c.loop-left-test.true c.byte_at-in-loop-left.ensures (one_more c))
-
-pub overflow_add-key : goal.overflow_add-key
-overflow_add-key c = omega (arith, room_left characters (lit< tt) (loop-left-preserved c))
+pub loop-at-preserved : goal.loop-at-preserved
+loop-at-preserved c = more c
 
 pub overflow_mul-key : goal.overflow_mul-key
-overflow_mul-key c = omega (arith, room_left characters (lit< tt) (loop-left-preserved c))
+overflow_mul-key c = omega (arith, room_left characters (lit< tt) (more c))
 
-pub overflow_add-at-in-loop-left : goal.overflow_add-at-in-loop-left
-overflow_add-at-in-loop-left c =
-    omega (arith, among in_name (start (goal.at.overflow_add-at-in-loop-left c).Else-first).args.s.now c.loop-left.at c.byte_at-in-loop-left.ensures refl (one_more c))
+pub overflow_add-key : goal.overflow_add-key
+overflow_add-key c = omega (arith, room_left characters (lit< tt) (more c))
 
--- where the loop is left
-whole : (c : At-loop-left) → (
-    let a = (start (goal.at.At-loop-left c).Else-first).args in
-    Gathered in_name key_after a.s.now c.letter-first.result (a.from + 1) 11 c.loop-left.key c.loop-left.at
-    → record { right = true; key = c.loop-left.key; at = c.loop-left.at } ≡ word_from a.from (name (drop a.from a.s.now))
-    )
-whole c g = let w = is_name (goal.at.At-loop-left c).Else-first in rw (w.is, w.place, g.value, g.place, headed_by characters, ← c.letter-first.ensures)
+pub returns-in_default-figure : goal.returns-in_default-figure
+returns-in_default-figure c =
+    whole _ _ _ c.byte_at.ensures c.in-Some.ensures c.if-first-gt-LAST_CAPITAL.false
+    (gathered_here characters c.loop-at.invariant c.byte_at-in-loop-at.ensures (figure_none c.byte_at-in-loop-at.result c.in_default-figure.ensures))
 
-pub returns-after-loop-left : goal.returns-after-loop-left
-returns-after-loop-left c = whole (goal.at.returns-after-loop-left c).At-loop-left (gathered_all characters c.loop-left.invariant c.loop-left-test.false)
-
-pub returns-then-next-eq0 : goal.returns-then-next-eq0
-returns-then-next-eq0 c =
-    let no = letter_in_name _ ∙ ap not (rw c.letter-next.ensures at (eq-eqb _ 0 c.if-next-eq0.true)) in
-    whole (goal.at.returns-then-next-eq0 c).At-loop-left (gathered_here characters c.loop-left.invariant c.byte_at-in-loop-left.ensures no)
+pub returns : goal.returns
+returns c =
+    let there : c.args.from < length c.args.s.now = inside _ _ _ c.byte_at.ensures c.in-Some.ensures c.if-first-gt-LAST_CAPITAL.false in
+    let end : c.min-end.result ≡ c.loop-at.at = omega arith in
+    rw end (whole _ _ _ c.byte_at.ensures c.in-Some.ensures c.if-first-gt-LAST_CAPITAL.false (gathered_all characters c.loop-at.invariant (omega arith)))

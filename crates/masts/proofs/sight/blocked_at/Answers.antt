@@ -1,17 +1,24 @@
--- `blocked_at` meets its contract, by the law of the clear test. Assumes nothing.
-use native.Mathlib.Omega.{arith}
+-- `blocked_at` meets its contract: the sample that blocked before, or the first between the ends at which the line is below the need. Assumes nothing.
+use Prim.Native.Nat.{◌≤◌, ◌<◌}
+use borrow.Author.Rules.{rules}
+use borrow.Author.Tests.{tests}
 use lib.ListN.{get_or}
-use Rattle.masts.proofs.Laws.Clear.{clear_none, clear_more}
-use Rattle.masts.proofs.Laws.Masts.{blocks_none}
+use Rattle.std.proofs.lemmas.Iterator.{first_from_Range}
+use Rattle.path.specs.Path.{line}
+use Rattle.masts.proofs.Laws.Masts.{first_blocked}
 use Rattle.masts.proofs.sight.blocked_at.Goals as goal
 
-pub loop-i-init : goal.loop-i-init
-loop-i-init c = clear_none _ _ _ _ (omega arith)
-
-pub loop-i-preserved : goal.loop-i-preserved
-loop-i-preserved c =
+pub returns-in_default : goal.returns-in_default
+returns-in_default c =
     let a = c.args in
-    clear_more (λ k. get_or a.needs.now k 0) a.n a.first a.last c.loop-i.i c.loop-i.invariant (omega arith) (omega arith)
-
-pub returns : goal.returns
-returns c = blocks_none c.loop-i.invariant (omega arith)
+    first_blocked (λ i. get_or a.needs.now i 0) a.line.n a.line.from a.line.to c.find.result
+    (first_from_Range
+    _
+    _
+    _
+    _
+    (λ i. line a.line.n a.line.from a.line.to i < get_or a.needs.now i 0)
+    (λ i. get_or a.needs.now i 0 ≤ line a.line.n a.line.from a.line.to i)
+    c.find.ensures.ran
+    (λ x q k. search (rules, tests))
+    (λ x q k. search (rules, tests)))

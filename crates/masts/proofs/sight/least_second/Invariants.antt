@@ -6,4 +6,4 @@ use Rattle.masts.proofs.Laws.Masts.{Least}
 use Rattle.masts.proofs.sight.least_second.Given as goal
 
 abbrev pub invariant-loop-i : goal.invariant-loop-i
-invariant-loop-i l = (l.i ≤ l.n) × Least (λ k. get_or l.needs k 0) l.n l.first l.last l.i l.mast
+invariant-loop-i l = (l.i ≤ l.line.n) × Least (λ k. get_or l.needs k 0) l.line.n l.line.from l.line.to l.i l.mast

@@ -1,48 +1,38 @@
 -- `read_samples` meets its contract: the check of the file, then the path, then its samples, each by its own function. Assumes nothing.
-use mathlib.Core.Path.{◌≡◌, sym}
-use Rattle.ground.specs.Outcome.{given}
-use Rattle.terrain.specs.Check.{checked, Gave}
-use Rattle.path.specs.Path.{path_on}
+use mathlib.Core.Path.{sym}
+use Rattle.terrain.specs.Check.{Gave}
 use Rattle.profile.specs.Profile.{linked}
 use Rattle.path.proofs.Laws.Path.{path_is, path_sound}
 use Rattle.terrain.proofs.Laws.Checked.{north_most}
-use Rattle.profile.proofs.samples.read_samples.Goals.{In-Passed, In-Path}
+use Rattle.profile.proofs.Laws.Refused.{refused_is}
+use Rattle.profile.proofs.samples.read_samples.Goals.{In_ok-terrain}
 use Rattle.profile.proofs.samples.read_samples.Goals as goal
 
--- the file that passed, and the path
-terrain : (c : In-Passed) → (
-    let a = c.args in
-    checked a.file.now a.base a.zone ≡ given c.in-Passed.terrain
-    )
-terrain c = sym (rw c.in-Passed.is at c.check_file.ensures)
+-- the file that passed
+gave : (c : In_ok-terrain) → Gave c.args.file.now c.in_ok-terrain.terrain
+gave c = record { base = _; zone = _; gave = sym c.in_ok-terrain.ensures }
 
-gave : (c : In-Passed) → Gave c.args.file.now c.in-Passed.terrain
-gave c = record { base = _; zone = _; gave = terrain c }
+pub returns-in_err-terrain : goal.returns-in_err-terrain
+unfolding linked
+returns-in_err-terrain c = simp (refused_is c.from_residual.ensures.1, ← c.in_err-terrain.ensures)
 
 pub find-requires : goal.find-requires
-find-requires c = north_most (gave (goal.at.find-requires c).In-Passed)
+find-requires c = north_most (gave (goal.at.find-requires c).In_ok-terrain)
 
-path : (c : In-Path) → (
-    let a = c.args in
-    path_on c.in-Passed.terrain.ground a.asked ≡ given c.in-Path.path
-    )
-path c = sym (rw c.in-Path.is at c.find.ensures)
+pub returns-in_err-path : goal.returns-in_err-path
+unfolding linked
+returns-in_err-path c = simp (refused_is c.from_residual-in_err-path.ensures.1, ← c.in_ok-terrain.ensures, ← c.in_err-path.ensures)
 
 pub walk-requires : goal.walk-requires
 walk-requires c =
-    let file = gave (goal.at.walk-requires c).In-Passed in
-    (file, (path_sound (north_most file) (path_is _ _ _ (path (goal.at.walk-requires c).In-Path)), c.requires))
+    let file = gave (goal.at.walk-requires c).In_ok-terrain in
+    (file, (path_sound (north_most file) (path_is _ _ _ (sym c.in_ok-path.ensures)), c.requires))
 
-pub returns-in-Path : goal.returns-in-Path
+pub returns-in_err-walk : goal.returns-in_err-walk
 unfolding linked
-returns-in-Path c =
-    simp (terrain (goal.at.returns-in-Path c).In-Passed, path (goal.at.returns-in-Path c).In-Path, c.walk.ensures)
+returns-in_err-walk c =
+    simp (refused_is c.from_residual-in_err-walk.ensures.1, ← c.in_ok-terrain.ensures, ← c.in_ok-path.ensures, ← c.in_err-walk.ensures)
 
-pub returns-in-Refused-find : goal.returns-in-Refused-find
+pub returns : goal.returns
 unfolding linked
-returns-in-Refused-find c =
-    simp (terrain (goal.at.returns-in-Refused-find c).In-Passed, ← (rw c.in-Refused-find.is at c.find.ensures))
-
-pub returns-in-Refused : goal.returns-in-Refused
-unfolding linked
-returns-in-Refused c = simp (← (rw c.in-Refused.is at c.check_file.ensures))
+returns c = simp (← c.in_ok-terrain.ensures, ← c.in_ok-path.ensures, ← c.in_ok-walk.ensures)

@@ -1,88 +1,63 @@
--- `walk` meets its contract. The loop's invariant: the samples before i were read, and are in their places. The measure is what is left of
--- them. Assumes nothing.
-use mathlib.Core.Path.{◌≡◌, ◌∙◌, ap}
+-- `walk` meets its contract: each sample's reading is put in, or its refusal ends the walk. Assumes nothing.
+use mathlib.Core.Path.{◌≡◌, sym, ◌∙◌, ap}
 use mathlib.Core.List.{List}
 use Prim.Native.Nat.{ℕ, ◌+◌}
 use native.Mathlib.Omega.{arith}
 use Rattle.ground.specs.Outcome.{Outcome, given, refused}
-use Rattle.reading.specs.Reading.{point_in, read_answer}
+use Rattle.ground.specs.Refusal.{number}
+use Rattle.reading.specs.Reading.{point_in, spot_in}
+use Rattle.ground.specs.declared.point.Point.{Point}
+use Rattle.terrain.specs.Check.{Gave}
 use Rattle.reading.specs.declared.point.Reading.{Reading}
 use Rattle.terrain.specs.declared.check.Terrain.{Terrain}
 use Rattle.path.specs.Path.{sample}
 use Rattle.path.specs.declared.Path.{Path}
-use Rattle.profile.specs.Profile.{up_to, link_in}
+use Rattle.profile.specs.Profile.{up_to, link_of, link_in}
 use Rattle.terrain.proofs.Laws.Checked.{gave_opens}
-use Rattle.reading.proofs.Laws.Reading.{point_is_spot, read_within}
-use Rattle.reading.proofs.Laws.Answer.{point_numbered, shows_reading, shows_refusal}
+use Rattle.reading.proofs.Laws.Reading.{point_is_spot}
 use Rattle.profile.proofs.Laws.Profile.{one_more, one_refused}
-use Rattle.profile.proofs.samples.walk.Goals.{After-read_in-read, Else-read-ne0, Then-read-ne0}
+use Rattle.profile.proofs.samples.walk.Goals.{After-put, In-Ok}
 use Rattle.profile.proofs.samples.walk.Goals as goal
 
--- the reader of the path's samples, and what it says of sample i
+-- the reader of the path's samples
 abbrev reader : List ℕ → Terrain → Path → ℕ → Outcome Reading
 reader file terrain path k = point_in file terrain (sample path k)
 
-said : (c : After-read_in-read) → c.read_in-read.result ≡ read_answer (reader c.args.file.now c.args.terrain c.args.path c.loop-i.i)
-said c = (rw c.sample.ensures at c.read_in-read.ensures) ∙ ap read_answer (point_is_spot c.requires.0 _)
-
-read : (c : Else-read-ne0)
-    → reader c.args.file.now c.args.terrain c.args.path c.loop-i.i
-    ≡ given (record { height = c.read_in-read.result.height; code = c.read_in-read.result.code })
-read c = shows_reading _ (point_numbered _ _ _) (said (goal.at.Else-read-ne0 c).After-read_in-read) c.if-read-ne0.false
-
-not_read : (c : Then-read-ne0) → reader c.args.file.now c.args.terrain c.args.path c.loop-i.i ≡ refused c.read_in-read.result.refusal 0
-not_read c = shows_refusal _ (point_numbered _ _ _) (said (goal.at.Then-read-ne0 c).After-read_in-read) c.if-read-ne0.true
+-- what was read at a sample's point is what the reader says of the sample
+said : {file : List ℕ} {t : Terrain} (w : Path) (k : ℕ) {p : Point} {o : Outcome Reading} → Gave file t → p ≡ sample w k → o ≡ spot_in file t p
+    → reader file t w k ≡ o
+said w k g e s = sym (point_is_spot g (sample w k)) ∙ sym (rw e at s)
 
 pub loop-i-init : goal.loop-i-init
 unfolding up_to
-loop-i-init c = (omega arith, simp (c.requires.1.1.0, c.requires.1.1.1))
+loop-i-init c = rw c.requires.1.1
 
-pub sample-requires : goal.sample-requires
-sample-requires c = (c.requires.1.0, omega arith)
+pub read_in-requires : goal.read_in-requires
+read_in-requires c = gave_opens c.requires.0
 
-pub read_in-read-requires : goal.read_in-read-requires
-read_in-read-requires c = gave_opens c.requires.0
-
--- the sample has a place
-pub bounds-heights-i : goal.bounds-heights-i
-bounds-heights-i c = omega (arith, c.requires.1.0.most)
-
--- a code fits a byte
-pub overflow_cast-codes : goal.overflow_cast-codes
-overflow_cast-codes c =
-    omega (arith, (read_within _ c.requires.0 (read (goal.at.overflow_cast-codes c).Else-read-ne0)).1)
-
-pub bounds-codes-i : goal.bounds-codes-i
-bounds-codes-i c = omega (arith, c.requires.1.0.most)
-
-pub returns-then-read-ne0 : goal.returns-then-read-ne0
+pub returns-in-Err : goal.returns-in-Err
 unfolding link_in
-returns-then-read-ne0 c =
-    simp (
-    one_refused
-    (reader c.args.file.now c.args.terrain c.args.path)
-    c.args.path.n
-    (omega arith)
-    c.loop-i.invariant.1
-    (not_read (goal.at.returns-then-read-ne0 c).Then-read-ne0)
-    )
+returns-in-Err c =
+    let read : reader c.args.file.now c.args.terrain c.args.path c.loop-i.i ≡ refused (number c.in-Err.refusal) 0 =
+    said c.args.path c.loop-i.i c.requires.0 c.sample.ensures c.in-Err.ensures in
+    simp (one_refused (reader c.args.file.now c.args.terrain c.args.path) c.args.path.n (omega arith) c.loop-i.invariant read)
 
-pub overflow_add-i : goal.overflow_add-i
-overflow_add-i c = omega (arith, c.requires.1.0.most)
+-- one sample more
+more : (c : After-put) → (
+    let a = c.args in
+    up_to (reader a.file.now a.terrain a.path) a.path.n (c.loop-i.i + 1) ≡ given (link_of a.path c.put.new.self).profile
+    )
+more c =
+    let read : reader c.args.file.now c.args.terrain c.args.path c.loop-i.i ≡ given c.in-Ok.reading =
+    said c.args.path c.loop-i.i c.requires.0 c.sample.ensures c.in-Ok.ensures in
+    let put = c.put.ensures in
+    rw put (one_more (reader c.args.file.now c.args.terrain c.args.path) _ _ c.loop-i.invariant read)
 
 pub loop-i-preserved : goal.loop-i-preserved
-loop-i-preserved c = (
-  omega arith,
-  one_more
-      (reader c.args.file.now c.args.terrain c.args.path)
-      _
-      _
-      c.loop-i.invariant.1
-      (read (goal.at.loop-i-preserved c).Else-read-ne0),
-)
+loop-i-preserved c = more (goal.at.loop-i-preserved c).After-put
 
-pub returns : goal.returns
+pub returns-in-Ok : goal.returns-in-Ok
 unfolding link_in
-returns c =
-    let e : c.loop-i.i ≡ c.args.path.n + 1 = omega arith in
-    simp (rw e at c.loop-i.invariant.1)
+returns-in-Ok c =
+    let e : c.loop-i.i ≡ c.args.path.n = omega arith in
+    simp (ap (λ i. up_to (reader c.args.file.now c.args.terrain c.args.path) c.args.path.n (i + 1)) (sym e), more (goal.at.returns-in-Ok c).After-put)

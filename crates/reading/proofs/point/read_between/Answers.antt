@@ -1,5 +1,5 @@
 -- `read_between` meets its contract: what `lack_height` says of the two edges decides between the refusal and the reading. Assumes nothing.
-use mathlib.Core.Path.{◌≡◌}
+use mathlib.Core.Path.{◌≡◌, refl}
 use mathlib.Core.Bool.{◌||◌}
 use Prim.Native.Nat.{ℕ, ◌≤◌}
 use native.Mathlib.Omega.{arith}
@@ -9,6 +9,7 @@ use Rattle.reading.specs.Reading.{read_corners}
 use Rattle.reading.specs.Inside.{first, second, between, corners_around}
 use Rattle.reading.specs.declared.edge.Edge.{Edge}
 use Rattle.reading.proofs.Laws.Edge.{between_most, height_between}
+use Rattle.reading.proofs.Laws.Vote.{vote_is}
 use Rattle.reading.proofs.point.read_between.Goals.{After-along-2, After-lack_height-2}
 use Rattle.reading.proofs.point.read_between.Goals as goal
 
@@ -25,7 +26,7 @@ lacks c =
 
 pub returns-then-lack_height : goal.returns-then-lack_height
 unfolding read_corners
-returns-then-lack_height c = rw (lacks (goal.at.returns-then-lack_height c).After-lack_height-2, c.if-lack_height.true) c.refused.ensures
+returns-then-lack_height c = rw (lacks (goal.at.returns-then-lack_height c).After-lack_height-2, c.if-lack_height.true) refl
 
 -- the height along each edge
 along : (c : After-along-2) → (
@@ -51,8 +52,12 @@ between-requires c =
 pub vote-requires : goal.vote-requires
 vote-requires c = c.requires
 
+pub overflow_cast-result : goal.overflow_cast-result
+overflow_cast-result c =
+    omega (arith, c.vote.ensures, (vote_is (corners_around c.args.south c.args.north c.args.place.weights)).within)
+
 pub returns : goal.returns
 unfolding read_corners
 returns c =
     let is = along (goal.at.returns c).After-along-2 in
-    rw (lacks (goal.at.returns c).After-lack_height-2, c.if-lack_height.false, height_between _ _ _ c.requires, ← is.0, ← is.1, ← c.between.ensures, ← c.vote.ensures) c.given.ensures
+    rw (lacks (goal.at.returns c).After-lack_height-2, c.if-lack_height.false, height_between _ _ _ c.requires, ← is.0, ← is.1, ← c.between.ensures, ← c.vote.ensures) refl

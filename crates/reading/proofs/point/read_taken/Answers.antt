@@ -8,8 +8,7 @@ use lib.Dec.{eqb}
 use borrow.Author.Tests.{eqb-true, eqb-false, eq-eqb}
 use Rattle.ground.specs.Place.{word}
 use Rattle.ground.proofs.Laws.Test.{either, neither}
-use Rattle.reading.specs.Corner.{Corners}
-use Rattle.reading.specs.Reading.{read_corners, read_taken, read_answer}
+use Rattle.reading.specs.Reading.{read_corners, read_taken}
 use Rattle.reading.proofs.Laws.Edge.{word_in, line_in, edges_in, all_weigh_lem, around_is, along_reads}
 use Rattle.reading.proofs.point.read_taken.Goals.{Else-place, Then-place}
 use Rattle.reading.proofs.point.read_taken.Goals as goal
@@ -44,7 +43,7 @@ pub returns-then-place : goal.returns-then-place
 unfolding read_taken
 returns-then-place c =
     let under = rw c.cut-bytes.ensures.bytes at c.under-edge.ensures in
-    c.read_along.ensures ∙ ap read_answer (sym (along_reads _ _ c.requires.measured under))
+    c.read_along.ensures ∙ sym (along_reads _ _ c.requires.measured under)
 
 pub words-words-requires : goal.words-words-requires
 words-words-requires c = word_in c.requires
@@ -71,4 +70,4 @@ returns c =
     let at = c.words-words.ensures in
     let weigh = all_weigh_lem c.requires (off (goal.at.returns c).Else-place).0 (off (goal.at.returns c).Else-place).1 in
     let around = around_is _ _ (rw (is, at) at c.east_of-south.ensures) (rw (is, at, last) at c.east_of-north.ensures) c.args.taken.place.weights weigh in
-    c.read_between.ensures ∙ ap (λ (x : Corners). read_answer (read_corners x)) (sym around)
+    c.read_between.ensures ∙ ap read_corners (sym around)

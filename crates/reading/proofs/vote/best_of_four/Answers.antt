@@ -49,5 +49,5 @@ returns c =
       other s.c s.a.code (λ e. c.if-a-c.false (sym e)),
       other s.d s.a.code (λ e. c.if-a-d.false (sym e)),
     ) in
-    rw (c.greater.ensures, c.rank.ensures)
+    rw (c.max.ensures, c.rank.ensures)
     (top_more s.a (s.b ∷ s.c ∷ s.d ∷ []) c.best_of_three-2.result c.requires.coded.0 none c.best_of_three-2.ensures)

@@ -31,5 +31,5 @@ returns c =
     let s = c.args in
     let none : sum_in (s.b ∷ s.c ∷ []) s.a.code ≡ 0 =
     omega (arith, other s.b s.a.code (λ e. c.if-a-b.false (sym e)), other s.c s.a.code (λ e. c.if-a-c.false (sym e))) in
-    rw (c.greater.ensures, c.rank.ensures)
+    rw (c.max.ensures, c.rank.ensures)
     (top_more s.a (s.b ∷ s.c ∷ []) c.best_of_two-2.result c.requires.coded.0 none c.best_of_two-2.ensures)

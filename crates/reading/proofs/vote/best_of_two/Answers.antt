@@ -16,5 +16,5 @@ returns-then-a-b c =
 pub returns : goal.returns
 returns c =
     let pre = c.requires in
-    rw (c.greater.ensures, c.rank-3.ensures, c.rank-2.ensures)
+    rw (c.max.ensures, c.rank-3.ensures, c.rank-2.ensures)
     (top_two _ _ pre.coded.0 pre.coded.1.0 c.if-a-b.false)

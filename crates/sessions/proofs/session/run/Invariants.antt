@@ -1,15 +1,14 @@
--- The loop of `run`: the session stands within its rooms and within the text, and the rooms keep their lengths. The measure is the turns that are left.
-use Rattle.std.proofs.Common.{length, ◌≡◌, ◌≤◌}
-use Rattle.sessions.specs.Room.{AtDesk}
+-- The loop of `run`: what is read and what waits fit their rooms, the file in use lies within its own, the text that is left is not too long, and both rooms
+-- keep their lengths.
+use Rattle.std.proofs.Common.{◌≡◌, length, ◌≤◌}
+use Rattle.shell.specs.Inside.{HasRead, Waits}
 use Rattle.sessions.proofs.session.run.Given as goal
 
-abbrev pub invariant-loop-turns : goal.invariant-loop-turns
-invariant-loop-turns g l =
-    AtDesk l.desk
-    × (l.desk.from ≤ length l.text)
-    × (length l.input ≡ 65536)
-    × (length l.out ≡ 65536)
+abbrev pub invariant-loop : goal.invariant-loop
+invariant-loop g l =
+    HasRead l.input
+    × Waits l.answers
+    × (length l.pieces.text.now ≤ 8192)
+    × (l.length ≤ 62464)
     × (length l.file ≡ 62464)
-
-abbrev pub decreases-loop-turns : goal.decreases-loop-turns
-decreases-loop-turns g l = l.turns
+    × (length l.spare ≡ 62464)

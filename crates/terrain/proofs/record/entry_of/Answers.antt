@@ -13,4 +13,4 @@ nth-requires c = search rules
 
 pub returns : goal.returns
 unfolding entry
-returns c = rw (ne_eqb c.args.n 0 c.if-n-eq0.false, c.nth.ensures)
+returns c = rw (ne_eqb c.args.n 0 c.if-n-eq0.false, c.from.ensures, c.nth.ensures)

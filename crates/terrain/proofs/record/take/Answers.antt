@@ -3,6 +3,9 @@ use mathlib.Core.Path.{◌≡◌, sym, ◌∙◌, ap}
 use Prim.Native.Nat.{◌+◌}
 use native.Mathlib.Omega.{arith}
 use borrow.Author.Tests.{ne_eqb}
+use Rattle.std.proofs.lemmas.Result.{err_from_is_err_and}
+use Rattle.ground.specs.Refusal.{outcome_of}
+use Rattle.ground.proofs.Laws.Outcome.{told}
 use Rattle.ground.specs.Place.{number}
 use Rattle.ground.specs.Seam.{allowed}
 use Rattle.index.proofs.Laws.Walk.{from_7_to_M}
@@ -24,10 +27,17 @@ returns-then-is_record c =
     let r = from_7_to_M c.entry_of-entry.result (6 + c.args.past) named in
     simp (← found (goal.at.returns-then-is_record c).After-entry_of-entry, ne_eqb c.entry_of-entry.result 0 (λ e. omega arith), named)
 
+pub returns-in_err-take_beside : goal.returns-in_err-take_beside
+unfolding taken allowed first_covered
+returns-in_err-take_beside c =
+    let p = err_from_is_err_and c.from_residual.result c.from_residual.ensures.1 in
+    rw (p.1, p.2)
+    (simp (← found (goal.at.returns-in_err-take_beside c).After-entry_of-entry, c.if-entry-eq0.true, told outcome_of c.take_beside.ensures c.in_err-take_beside.was))
+
 pub returns-then-entry-eq0 : goal.returns-then-entry-eq0
 unfolding taken allowed first_covered
 returns-then-entry-eq0 c =
-    simp (← found (goal.at.returns-then-entry-eq0 c).After-entry_of-entry, c.if-entry-eq0.true, c.vouch.ensures, c.take_beside.ensures)
+    simp (← found (goal.at.returns-then-entry-eq0 c).After-entry_of-entry, c.if-entry-eq0.true, told outcome_of c.take_beside.ensures c.in_ok-take_beside.was, c.vouch.ensures)
 
 pub returns : goal.returns
 unfolding taken allowed first_covered
