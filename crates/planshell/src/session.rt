@@ -62,6 +62,37 @@ fn read_on(reader: &mut impl Read, input: &mut Input) -> io::Result<bool>
     Ok(true)
 }
 
+// Writes the answers that wait, and reads on where the input has not ended, which is kept in `ended`. Says whether
+// there are bytes to go on with.
+fn go_on(
+    rt: &impl Print,
+    reader: &mut impl Read,
+    input: &mut Input,
+    answers: &mut Answers,
+    ended: &mut bool,
+) -> io::Result<bool>
+    requires { HasRead input.old × Waits answers.old }
+    ensures { HasRead input.new × Waits answers.new }
+{
+    flush(rt, answers)?;
+    if *ended {
+        return Ok(false);
+    }
+    *ended = !read_on(reader, input)?;
+    Ok(0 < input.end)
+}
+
+// The input of which nothing is read yet.
+fn no_input() -> Input
+    ensures { HasRead result }
+{
+    Input {
+        bytes: [0; PIECE],
+        at: 0,
+        end: 0,
+    }
+}
+
 // Answers the lines of the input until it ends, a read fails or the output is closed. No session uses up the
 // turns.
 pub(crate) fn serve<R: Files + Print>(
@@ -74,11 +105,7 @@ pub(crate) fn serve<R: Files + Print>(
         bytes: [0; answer::ROOM],
         filled: 0,
     };
-    let mut input = Input {
-        bytes: [0; PIECE],
-        at: 0,
-        end: 0,
-    };
+    let mut input = no_input();
     let mut first = [0u8; FILE];
     let mut second = [0u8; FILE];
     let mut file = &mut first;
@@ -99,12 +126,7 @@ pub(crate) fn serve<R: Files + Print>(
             }
             Next::Full => flush(rt, &mut answers)?,
             Next::More => {
-                flush(rt, &mut answers)?;
-                if ended {
-                    break;
-                }
-                ended = !read_on(reader, &mut input)?;
-                if input.end == 0 {
+                if !go_on(rt, reader, &mut input, &mut answers, &mut ended)? {
                     break;
                 }
             }

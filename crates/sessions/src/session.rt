@@ -87,6 +87,17 @@ fn read_on(pieces: &mut Pieces, input: &mut Input)
     }
 }
 
+// The input of which nothing is read yet.
+fn no_input() -> Input
+    ensures { HasRead result }
+{
+    Input {
+        bytes: [0; PIECE],
+        at: 0,
+        end: 0,
+    }
+}
+
 // Answers the lines of a text, and prints the answers. The text comes in pieces: the first of `size` bytes,
 // and the others of one byte more each time, from 1 to 7 and over again. The answers wait in the room after
 // its first bytes, which are left alone.
@@ -99,11 +110,7 @@ pub(crate) fn run(rt: &impl Print, text: &[u8], size: usize, first: usize)
         bytes: [0; answer::ROOM],
         filled: first,
     };
-    let mut input = Input {
-        bytes: [0; PIECE],
-        at: 0,
-        end: 0,
-    };
+    let mut input = no_input();
     let mut one = [0u8; file::LONGEST];
     let mut other = [0u8; file::LONGEST];
     let mut file = &mut one;
