@@ -53,6 +53,12 @@ function print_fields(type, path, outer, c,    n, i, part, field, name) {
     }
 }
 
+# keeps the value of a name, of which there may be one alone
+function keep(name, number) {
+    if (!(name in value)) value[name] = number
+    else if (value[name] != number) value[name] = "two_values_of_" name
+}
+
 /^#\[repr\(C\)\]/ { repr = 1; next }
 repr && match($0, /^pub struct [A-Za-z]+/) {
     name = substr($0, 12, RLENGTH - 11)
@@ -69,13 +75,12 @@ inside && /^    pub / {
 }
 match($0, /const [A-Z_]+: (u32|usize) = [0-9]+;/) {
     split(substr($0, RSTART, RLENGTH), word, /[ :;]+/)
-    if (!(word[2] in value)) value[word[2]] = word[5]
-    else if (value[word[2]] != word[5]) value[word[2]] = "two_values_of_" word[2]
+    keep(word[2], word[5])
 }
 # a case of an enum with its number, by its name in capitals
 match($0, /^    [A-Z][A-Za-z]+ = [0-9]+,$/) {
     split($0, word, /[ ,]+/)
-    value[toupper(word[2])] = word[4]
+    keep(toupper(word[2]), word[4])
 }
 /^pub extern "C" fn / { signature = ""; reading = 1 }
 reading { signature = signature $0 " " }

@@ -3,6 +3,7 @@
 // leave out, and for every must-fail edit it asks a question that the edited library answers otherwise.
 #![tactic(auto)]
 
+use say::Output;
 use std::io;
 
 mod damage;
@@ -29,7 +30,8 @@ fn answers(rt: &impl Print) -> io::Result<()> {
     links::paths(rt, &file)
 }
 
-// Prints the answers as far as the output takes them, and ends with status 0 where it takes no more.
+// Prints the answers. A write that fails loses what it was to write, and the rest is tried all the same; the
+// status is 0.
 fn main(rt: HostRuntime) {
-    let _ = answers(&rt);
+    let _ = answers(&Output(&rt));
 }

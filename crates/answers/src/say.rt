@@ -1,5 +1,30 @@
 // What is printed: rows of numbers, and numbers that stand for metres and shares.
 use std::fmt::{self, Display, Formatter};
+use std::io;
+
+// The output, of which a write that fails loses only what it was to write: what comes after it is tried.
+#[derive(Clone, Copy)]
+pub(crate) struct Output<'a, R>(pub(crate) &'a R);
+
+impl<R: Print> Print for Output<'_, R> {
+    // Writes the value, if the output takes it.
+    fn print<D: Display + Drop>(&self, value: D) -> io::Result<()> {
+        let _ = self.0.print(value);
+        Ok(())
+    }
+
+    // Writes the value and a line feed, if the output takes them.
+    fn println<D: Display + Drop>(&self, value: D) -> io::Result<()> {
+        let _ = self.0.println(value);
+        Ok(())
+    }
+
+    // Writes the bytes, if the output takes them.
+    fn write_all(&self, bytes: &[u8]) -> io::Result<()> {
+        let _ = self.0.write_all(bytes);
+        Ok(())
+    }
+}
 
 // Numbers in a row, printed with a space before each.
 #[derive(Drop)]

@@ -2,6 +2,7 @@
 // as one line.
 #![tactic(auto)]
 
+use say::Output;
 use std::io;
 
 mod call;
@@ -31,7 +32,8 @@ fn figures(rt: &impl Print) -> io::Result<()> {
     plans::p12(rt)
 }
 
-// Prints the figures as far as the output takes them, and ends with status 0 where it takes no more.
+// Prints the figures. A write that fails loses what it was to write, and the rest is tried all the same; the
+// status is 0.
 fn main(rt: HostRuntime) {
-    let _ = figures(&rt);
+    let _ = figures(&Output(&rt));
 }

@@ -1,5 +1,5 @@
 // P10: the curve G of the earth on a path of 10 km, measured by the verdict.
-ghost use Rattle.std.specs.Prelude.{◌≤◌};
+ghost use Rattle.std.specs.Prelude.{◌≤◌, IfSome};
 
 use crate::file::{File, Record};
 use crate::point::past_corner;
@@ -38,7 +38,9 @@ fn is_clear(fx: u16) -> bool
 }
 
 // The least fx with which the path is clear. The ends with their masts are then as high as the greatest G.
-fn least_clear() -> Option<u16> {
+fn least_clear() -> Option<u16>
+    ensures { IfSome result (λ fx. fx ≤ 499) }
+{
     (0..500).find(|fx| is_clear(*fx))
 }
 

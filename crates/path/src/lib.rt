@@ -107,7 +107,7 @@ impl Path {
 fn over_asked(n: u32, a: u32, b: u32, i: u32) -> bool
     ensures { result ≡ over_asked n a b i }
 {
-    TALLEST < a || TALLEST < b || n < i
+    (TALLEST < a) | (TALLEST < b) | (n < i)
 }
 
 // The path between two points of a ground, or refusal 4 for the first end, 4 for the second, 7 or 8.
@@ -122,11 +122,14 @@ pub fn find(ground: Ground, asked: Asked) -> Result<Path, Refusal>
         b,
         i,
     } = asked;
-    if !ground.holds(first) || !ground.holds(second) {
+    if !ground.holds(first) {
+        return Err(Refusal::OffGround);
+    }
+    if !ground.holds(second) {
         return Err(Refusal::OffGround);
     }
     let q = steps::squared(first, second);
-    if q == 0 || FARTHEST < q {
+    if (q == 0) | (FARTHEST < q) {
         return Err(Refusal::NoPath);
     }
     let n = steps::steps(q);

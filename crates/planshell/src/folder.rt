@@ -62,7 +62,7 @@ impl Folder {
     // The folder of this path, where there is one.
     pub(crate) fn find(rt: &impl Files, name: &[u8]) -> Option<Self> {
         let length = name.len();
-        if length == 0 || LONGEST < length {
+        if (length == 0) | (LONGEST < length) {
             return None;
         }
         let mut path = [0; PATH];

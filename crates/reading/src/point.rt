@@ -1,5 +1,6 @@
 // The reading of a point.
 ghost use Rattle.std.specs.Prelude.{◌≡◌, ◌≤◌};
+ghost use Rattle.ground.specs.Outcome.{refused};
 ghost use Rattle.ground.specs.Refusal.{outcome_of};
 ghost use Rattle.terrain.specs.Check.{Opens};
 ghost use Rattle.terrain.specs.Inside.{Measured, Reaches};
@@ -34,6 +35,20 @@ pub struct ReadAnswer {
     pub code: u32,
 }
 
+impl ReadAnswer {
+    // The refusal with this number.
+    pub fn refused(number: u32) -> ReadAnswer
+        ensures { result ≡ read_answer (refused number 0) }
+    {
+        ReadAnswer {
+            refusal: number,
+            place: 0,
+            height: 0,
+            code: 0,
+        }
+    }
+}
+
 impl From<Result<Reading, Refusal>> for ReadAnswer {
     ghost from_gives = { λ reading answer. answer ≡ read_answer (outcome_of reading) };
 
@@ -45,12 +60,7 @@ impl From<Result<Reading, Refusal>> for ReadAnswer {
                 height: reading.height,
                 code: u32::from(reading.code),
             },
-            Err(refusal) => ReadAnswer {
-                refusal: refusal.number(),
-                place: 0,
-                height: 0,
-                code: 0,
-            },
+            Err(refusal) => ReadAnswer::refused(refusal.number()),
         }
     }
 }

@@ -40,10 +40,10 @@ struct Found {
 // Writes the n-th 16-bit number of the file, counted from 1, high byte first, where it has one.
 fn put(file: &mut [u8], n: u32, number: u32) {
     let end = 2 * n as usize;
-    if 0 < n
-        && let Some(place) = file.get_mut(end - 2..end)
-    {
-        place.copy_from_slice(&((number % 65536) as u16).to_be_bytes());
+    if 0 < n {
+        if let Some(place) = file.get_mut(end - 2..end) {
+            place.copy_from_slice(&((number % 65536) as u16).to_be_bytes());
+        }
     }
 }
 

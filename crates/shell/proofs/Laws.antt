@@ -1,7 +1,7 @@
 -- The laws that belong to no one function. Those marked pub are for the functions' proofs and the crates above.
 --     Written      a word written after another
 --     Answer       how long an answer is
---     Refused      what an answer of `sight` and of `plan` shows
+--     Refused      the numbers of the refusals of a file and of a path are from 1 to 9
 --     Names        two names are found the same exactly if they are
 --     Sites        what a search among the keys comes to, and what is held after a site is added
 --     Use          what a `use` answers, and what is held after it

@@ -50,7 +50,7 @@ module _ {A B : Type 0} (first : List ℕ → Part A) where
       go (stopped k) = refl
 
 -- what follows two names follows both
-two_names_lem : {A : Type 0} (rest : List ℕ → List ℕ → List ℕ → Part A) (l : List ℕ)
+pub two_names_lem : {A : Type 0} (rest : List ℕ → List ℕ → List ℕ → Part A) (l : List ℕ)
     → two_names rest l ≡ (both_names then λ t. rest t.first t.second) l
 unfolding two_names both_names
 two_names_lem {A} rest l = sym (regroup name _ k l ∙ alike name _ _ (λ m l. regroup space _ k l ∙ alike space _ _ (λ b l. last m l) l) l)

@@ -3,4 +3,4 @@ use Rattle.index.proofs.Laws.Marks.{marks_one}
 use Rattle.index.proofs.marks.mark.Goals as goal
 
 pub returns : goal.returns
-returns c = rw (c.replace.ensures.value, c.replace.ensures.after) (marks_one _ _)
+returns c = simp (c.replace.ensures.value, c.replace.ensures.after) (marks_one _ _)

@@ -1,6 +1,8 @@
 -- `curve` meets its contract: the quotient, rounded up, is G, and fits 32 bits. Assumes nothing.
 use mathlib.Core.Path.{◌≡◌, ◌∙◌}
+use Prim.Native.Nat.{ℕ, ◌*◌, ◌-◌}
 use native.Mathlib.Omega.{arith}
+use Rattle.path.specs.declared.Path.{Path}
 use Rattle.link.specs.Clear.{G}
 use Rattle.masts.proofs.Laws.Rounding.{ceil_is}
 use Rattle.link.proofs.Laws.Bounds.{curve_fits, curve_most}
@@ -11,8 +13,10 @@ use Rattle.link.proofs.clear.curve.Goals as goal
 is : (c : After-div_ceil) → c.div_ceil.result ≡ G c.args.path c.args.i
 unfolding G
 is c =
+    let w : Path = c.args.path in
+    let i : ℕ = c.args.i in
     (rw (c.from.ensures, c.from-2.ensures, c.from-over.ensures) at c.div_ceil.ensures)
-    ∙ ceil_is _ _ (omega (arith, curve_most c.args.path c.args.i c.requires.0 c.requires.1))
+    ∙ ceil_is (w.q * i * (w.n - i)) (17000 * (w.n * w.n)) (omega (arith, curve_most w i c.requires.0 c.requires.1))
 
 pub overflow_cast-result : goal.overflow_cast-result
 unfolding G
