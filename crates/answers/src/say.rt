@@ -1,21 +1,30 @@
-// What is printed: rows of numbers, and numbers that stand for metres and shares.
-use std::fmt::{self, Display, Formatter};
+// What is printed, and where: rows of numbers, numbers that stand for metres and shares, and the output.
+use std::fmt::{self, Display, Formatter, Write};
 use std::io;
 
-// The output, of which a write that fails loses only what it was to write: what comes after it is tried.
-#[derive(Clone, Copy)]
+// The output, of which a write that fails loses only what it was to write, one piece of a text or one number: what
+// comes after it is tried. So every call answers `Ok`.
+#[derive(Drop)]
 pub(crate) struct Output<'a, R>(pub(crate) &'a R);
 
+impl<R: Print> Write for Output<'_, R> {
+    // Writes a piece of text, if the output takes it.
+    fn write_str(&mut self, piece: &str) -> fmt::Result {
+        let _ = self.0.write_all(piece.as_bytes());
+        Ok(())
+    }
+}
+
 impl<R: Print> Print for Output<'_, R> {
-    // Writes the value, if the output takes it.
+    // Writes the value piece by piece, as far as the output takes them.
     fn print<D: Display + Drop>(&self, value: D) -> io::Result<()> {
-        let _ = self.0.print(value);
+        let _ = write!(Output(self.0), "{value}");
         Ok(())
     }
 
-    // Writes the value and a line feed, if the output takes them.
+    // Writes the value and a line feed piece by piece, as far as the output takes them.
     fn println<D: Display + Drop>(&self, value: D) -> io::Result<()> {
-        let _ = self.0.println(value);
+        let _ = writeln!(Output(self.0), "{value}");
         Ok(())
     }
 

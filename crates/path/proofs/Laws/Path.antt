@@ -1,11 +1,12 @@
 -- A path that was found: its ends are on the ground, it is neither too short nor too long, what was asked of it is not too much, and its numbers are
 -- within their bounds. From the laws of the ground and of N. Assumes nothing.
 use mathlib.Core.Path.{◌≡◌, refl}
-use mathlib.Core.Bool.{true, false, not}
-use Prim.Native.Nat.{ℕ, ◌≤◌}
+use mathlib.Core.Bool.{true, false, not, or-true}
+use mathlib.Core.Logic.{◌⊎◌, inl, inr}
+use Prim.Native.Nat.{ℕ, ◌≤◌, ◌<◌}
 use native.Mathlib.Omega.{arith}
 use lib.Dec.{ltb, eqb}
-use borrow.Author.Tests.{ltb-false, eqb-false, not-false}
+use borrow.Author.Tests.{ltb-false, lt-ltb, le-ltb, eqb-false, ne_eqb, not-false}
 use Rattle.ground.specs.Outcome.{given}
 use Rattle.ground.specs.Boundary.{y_end}
 use Rattle.ground.specs.Ground.{holds}
@@ -23,6 +24,15 @@ use Rattle.path.proofs.Laws.Steps.{N_is, N_most}
 -- the greatest Q of a path, in document 01's digits
 pub farthest_is : farthest ≡ 10000000000
 farthest_is = refl
+
+-- a path of 1 m to 100 km is neither too short nor too long
+pub fits_length : (q : ℕ) → 1 ≤ q → q ≤ farthest → too_short_or_long q ≡ false
+fits_length q some most = simp (ne_eqb q 0 (λ e. omega arith), le-ltb farthest q most)
+
+-- a path that is too short or too long
+pub no_length : (q : ℕ) → (q ≡ 0) ⊎ ((q ≡ 0 → ⊥) × (farthest < q)) → too_short_or_long q ≡ true
+no_length q (inl none) = rw none
+no_length q (inr far) = simp (lt-ltb _ _ far.1, or-true)
 
 -- a path that is neither too short nor too long
 pub length_is : (q : ℕ) → too_short_or_long q ≡ false → (1 ≤ q) × (q ≤ farthest)
